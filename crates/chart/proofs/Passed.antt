@@ -1,0 +1,59 @@
+-- The table of refusals 1 to 9 by parts: what the rows that are passed tell.
+use mathlib.Core.Path.{_≡_, subst₂}
+use mathlib.Core.Bool.{false, not}
+use mathlib.Core.List.{List, [], _∷_}
+use Prim.Native.Nat.{ℕ, _+_, _*_, _≤_, _<_}
+use native.Mathlib.Omega.{arith}
+use borrow.Author.Tests.{ltb-false, leb-false, eqb-true, not-false}
+use lib.ListN.{length, drop}
+use lib.Dec.{leb, ltb, eqb}
+use Rattle.outcome.specs.declared.Outcome.{Outcome}
+use Rattle.outcome.specs.Refusal.{first, rows}
+use Rattle.outcome.proofs.Whole.{whole-none, or-false}
+use Rattle.outcome.proofs.First.{first-zero}
+use Rattle.outcome.proofs.Lowest.{none-below}
+use Rattle.chart.specs.Bytes.{stateCount, arrowCount, arrowWords, Shape}
+use Rattle.chart.specs.Refusals.{chartTable, arrowRow, bodyRows, outside, namesNoState}
+
+inside : (a b x : ℕ) → outside a b x ≡ false → (a ≤ x) × (x ≤ b)
+inside a b x e =
+    let h = or-false (ltb x a) (ltb b x) e in
+    (ltb-false x a (h .0), ltb-false b x (h .1))
+
+module _ (s : List ℕ) where
+  module _ {n m : ℕ} (en : n ≡ stateCount s) (em : m ≡ arrowCount s) where
+    -- checks 4 to 6 leave the shape
+    pub size-passed : first (rows 3 3 (chartTable s)) .number ≡ 0 → Shape s n m
+    unfolding chartTable
+    size-passed e =
+        let a = first-zero 4 _ _ (omega arith) e in
+        let b = first-zero 5 _ _ (omega arith) (a .1) in
+        let d = first-zero 6 _ _ (omega arith) (b .1) in
+        let x = inside 1 256 (stateCount s) (whole-none (outside 1 256 (stateCount s)) (a .0)) in
+        let y = inside 1 2048 (arrowCount s) (whole-none (outside 1 2048 (arrowCount s)) (b .0)) in
+        let l = 9 + 2 * stateCount s + 8 * arrowCount s in
+        let z = eqb-true (length s) l (not-false (eqb (length s) l) (whole-none (not (eqb (length s) l)) (d .0))) in
+        record {
+          states = en;
+          arrows = em;
+          some-states = omega (arith, x .0);
+          few-states = omega (arith, x .1);
+          some-arrows = omega (arith, y .0);
+          few-arrows = omega (arith, y .1);
+          whole = omega arith;
+        }
+
+    -- rows 7 to 9 are the last three
+    pub body-last : {x : Outcome} → x ≡ first (bodyRows s n m) → x ≡ first (drop 6 (chartTable s))
+    unfolding chartTable
+    body-last {x} = subst₂ (λ k l. x ≡ first (bodyRows s k l)) en em
+
+  -- check 7 leaves arrows that name states
+  pub ends-passed :
+      (n m : ℕ) → first (arrowRow 7 s n m ∷ []) .number ≡ 0 → (i : ℕ) → i < m →
+      (arrowWords s i .start < n) × (arrowWords s i .end < n)
+  ends-passed n m e i l =
+      let w = arrowWords s i in
+      let h = none-below (λ i. namesNoState n (arrowWords s i)) m (first-zero 7 _ _ (omega arith) e .0) i l in
+      let k = or-false (leb n (w .start)) (leb n (w .end)) h in
+      (leb-false n (w .start) (k .0), leb-false n (w .end) (k .1))

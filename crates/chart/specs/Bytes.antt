@@ -1,0 +1,67 @@
+-- A chart's bytes. The quoted sentences are of 01, "Bytes of a chart, a rule and a map".
+use mathlib.Core.Path.{_≡_}
+use mathlib.Core.Bool.{cond}
+use mathlib.Core.List.{List}
+use Prim.Native.Nat.{ℕ, _+_, _*_, _≤_, _<_}
+use lib.ListN.{length, getD}
+use lib.Dec.{eqb}
+use Rattle.words.specs.Word.{word}
+use Rattle.tctl.specs.Tabulate.{tabulate}
+use Rattle.tctl.specs.Chart.{Chart, Arrow, Most, upTo, noEnd}
+use Rattle.chart.specs.declared.ArrowWords.{ArrowWords}
+
+-- "n in bytes 5 to 6"
+abbrev pub stateCount : List ℕ → ℕ
+stateCount s = word s 5
+
+-- "arrow count m in 7 to 8"
+abbrev pub arrowCount : List ℕ → ℕ
+arrowCount s = word s 7
+
+-- "n label words of 2 bytes"
+abbrev pub labelWord : List ℕ → ℕ → ℕ
+labelWord s v = word s (9 + 2 * v)
+
+-- "m arrows of 8 bytes": where arrow i begins
+abbrev pub arrowPlace : List ℕ → ℕ → ℕ
+arrowPlace s i = 9 + 2 * stateCount s + 8 * i
+
+-- "start, end, fewest, most"
+unfoldable pub arrowWords : List ℕ → ℕ → ArrowWords
+arrowWords s i =
+    let at = arrowPlace s i in
+    record { start = word s at; end = word s (at + 2); fewest = word s (at + 4); most = word s (at + 6) }
+
+-- "Most = 65,535 is 'no end'"
+abbrev pub mostOf : ℕ → Most
+mostOf w = cond (eqb w 65535) noEnd (upTo w)
+
+abbrev pub arrowOf : ArrowWords → Arrow
+arrowOf w = record { start = w .start; end = w .end; fewest = w .fewest; most = mostOf (w .most) }
+
+-- the chart that the bytes stand for
+unfoldable pub chartOf : List ℕ → Chart
+chartOf s =
+    record { labels = tabulate (stateCount s) (labelWord s); arrows = tabulate (arrowCount s) (λ i. arrowOf (arrowWords s i)) }
+
+-- the words of an arrow are of two bytes
+pub record Small (w : ArrowWords) : Type 0 where
+  pub start : w .start < 65536
+  pub end : w .end < 65536
+  pub fewest : w .fewest < 65536
+  pub most : w .most < 65536
+
+-- n states, and arrow i lies in the bytes
+pub record Inside (s : List ℕ) (n i : ℕ) : Type 0 where
+  pub states : n ≡ stateCount s
+  pub whole : arrowPlace s i + 8 ≤ length s
+
+-- n states and m arrows, as checks 1 to 6 leave them
+pub record Shape (s : List ℕ) (n m : ℕ) : Type 0 where
+  pub states : n ≡ stateCount s
+  pub arrows : m ≡ arrowCount s
+  pub some-states : 1 ≤ n
+  pub few-states : n ≤ 256
+  pub some-arrows : 1 ≤ m
+  pub few-arrows : m ≤ 2048
+  pub whole : length s ≡ 9 + 2 * n + 8 * m

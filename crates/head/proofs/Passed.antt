@@ -1,0 +1,19 @@
+-- What a head that is passed tells.
+use mathlib.Core.Path.{_≡_}
+use mathlib.Core.List.{List}
+use Prim.Native.Nat.{ℕ, _≤_, _<_}
+use borrow.Author.Tests.{ltb-false}
+use lib.ListN.{length}
+use lib.Dec.{ltb}
+use Rattle.outcome.specs.declared.Outcome.{Outcome}
+use Rattle.outcome.specs.Refusal.{first}
+use Rattle.outcome.proofs.Whole.{whole-none}
+use Rattle.outcome.proofs.First.{first-zero, part-zero}
+use Rattle.head.specs.Head.{headRows}
+
+-- at least as many bytes as were asked for
+pub head-passed :
+    (number least : ℕ) (s : List ℕ) {r : Outcome} → 0 < number → r ≡ first (headRows number least s) → r .number ≡ 0 → least ≤ length s
+head-passed number least s l e z =
+    let p = first-zero number _ _ l (part-zero (headRows number least s) e z) in
+    ltb-false (length s) least (whole-none (ltb (length s) least) (p .0))

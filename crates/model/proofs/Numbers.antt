@@ -1,0 +1,29 @@
+-- The numbers of a list after one is set, and lists whose numbers are at most another's.
+use mathlib.Core.Path.{_≡_, refl, _∙_}
+use mathlib.Core.List.{List, [], _∷_}
+use Prim.Native.Nat.{ℕ, zero, suc, _≤_}
+use native.Mathlib.Omega.{arith}
+use lib.ListN.{length, set}
+use Rattle.model.specs.Engine.{num}
+
+-- what the new number has, and every old one, every number has after one is set
+pub set-elim :
+    (P : ℕ → ℕ → Type 0) (vs : List ℕ) (i v : ℕ) → P i v → ((s : ℕ) → P s (num vs s)) →
+    (s : ℕ) → P s (num (set vs i v) s)
+set-elim P [] i v new old s = old s
+set-elim P (x ∷ vs) zero v new old zero = new
+set-elim P (x ∷ vs) zero v new old (suc s) = old (suc s)
+set-elim P (x ∷ vs) (suc i) v new old zero = old zero
+set-elim P (x ∷ vs) (suc i) v new old (suc s) =
+    set-elim (λ s y. P (suc s) y) vs i v new (λ s. old (suc s)) s
+
+-- as many numbers, none of them more
+pub record Below (vs ws : List ℕ) : Type 0 where
+  pub size : length vs ≡ length ws
+  pub le : (s : ℕ) → num vs s ≤ num ws s
+
+pub below-refl : (vs : List ℕ) → Below vs vs
+below-refl vs = record { size = refl; le = λ s. omega arith }
+
+pub below-trans : {us vs ws : List ℕ} → Below us vs → Below vs ws → Below us ws
+below-trans p q = record { size = p .size ∙ q .size; le = λ s. omega (arith, p .le s, q .le s) }

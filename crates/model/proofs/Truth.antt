@@ -1,0 +1,62 @@
+-- Truth values: what the tests of the engine say, and proofs by them.
+use mathlib.Core.Path.{_≡_, refl, sym}
+use mathlib.Core.Logic.{_↔_, _⊎_, inl, inr}
+use mathlib.Core.Bool.{Bool, true, false, not, cond, _&&_, _||_, Bool-discrete, false≢true}
+use Prim.Native.Nat.{ℕ, _≤_}
+use native.Mathlib.Omega.{arith}
+
+-- the states of which f says yes
+abbrev pub Yes : (ℕ → Bool) → ℕ → Type 0
+Yes f s = f s ≡ true
+
+pub yes-dec : (f : ℕ → Bool) (s : ℕ) → Dec (Yes f s)
+yes-dec f s = Bool-discrete (f s) true
+
+pub true-or-false : (b : Bool) → (b ≡ true) ⊎ (b ≡ false)
+true-or-false true = inl refl
+true-or-false false = inr refl
+
+pub not-iff : (b : Bool) → (not b ≡ true) ↔ (¬ (b ≡ true))
+not-iff true = (λ e f. false≢true e, λ h. absurd (h refl))
+not-iff false = (λ e f. false≢true f, λ h. refl)
+
+pub and-iff : (b c : Bool) → ((b && c) ≡ true) ↔ ((b ≡ true) × (c ≡ true))
+and-iff true c = (λ e. (refl, e), λ h. h .1)
+and-iff false c = (λ e. absurd (false≢true e), λ h. h .0)
+
+pub and-false : (b c : Bool) → (b && c) ≡ false → b ≡ true → c ≡ false
+and-false true c e f = e
+and-false false c e f = absurd (false≢true f)
+
+pub or-iff : (b c : Bool) → ((b || c) ≡ true) ↔ ((b ≡ true) ⊎ (c ≡ true))
+or-iff true c = (λ e. inl refl, λ h. refl)
+or-iff false c = (λ e. inr e, up)
+  where
+    up : (false ≡ true) ⊎ (c ≡ true) → c ≡ true
+    up (inl e) = absurd (false≢true e)
+    up (inr e) = e
+
+pub or-false : (b c : Bool) → (b || c) ≡ false → (b ≡ false) × (c ≡ false)
+or-false true c e = absurd (false≢true (sym e))
+or-false false c e = (refl, e)
+
+-- a choice has what both of its sides have
+pub cond-elim {ℓ κ} :
+    {A : Type ℓ} (P : A → Type κ) (b : Bool) {x y : A} → (b ≡ true → P x) → (b ≡ false → P y) → P (cond b x y)
+cond-elim P true f g = f refl
+cond-elim P false f g = g refl
+
+-- a test decides what it proves and refutes
+pub decides : {A : Type 0} (b : Bool) → (b ≡ true → A) → (b ≡ false → ¬ A) → (b ≡ true) ↔ A
+decides true f g = (f, λ a. refl)
+decides false f g = (f, λ a. absurd (g refl a))
+
+-- ── 1 for true and 0 for false ──
+
+pub one-le : (b : Bool) → cond b 1 0 ≤ 1
+one-le true = omega arith
+one-le false = omega arith
+
+pub one-true : (b : Bool) → 1 ≤ cond b 1 0 → b ≡ true
+one-true true h = refl
+one-true false h = absurd (let z : ⊥ = omega arith in z)

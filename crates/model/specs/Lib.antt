@@ -1,0 +1,4 @@
+pub mod Every
+pub mod Engine
+pub mod Decide
+pub mod ZeroLoop

@@ -1,0 +1,118 @@
+-- The first row that is met.
+use mathlib.Core.Path.{_≡_, refl, sym, ap, subst, _∙_}
+use mathlib.Core.Logic.{_↔_}
+use mathlib.Core.Bool.{Bool, true, false, _&&_}
+use mathlib.Core.List.{List, [], _∷_, _++_}
+use mathlib.Core.Option.{Option, none, some}
+use Prim.Native.Nat.{ℕ, zero, suc, _<_}
+use native.Mathlib.Omega.{arith}
+use lib.ListN.{take, drop, take-append-drop}
+use Rattle.outcome.specs.declared.Outcome.{Outcome}
+use Rattle.outcome.specs.Refusal.{Row, refuse, orLater, first, refusal, success}
+
+-- no row is met
+pub data Unmet : List Row → Type 0 where
+  end : Unmet []
+  passed : (n : ℕ) {rows : List Row} → Unmet rows → Unmet (refuse n none ∷ rows)
+
+-- no row has the number of success
+abbrev pub Numbered : List Row → Type 0
+Numbered [] = Unit {0}
+Numbered (refuse zero p ∷ rows) = ⊥
+Numbered (refuse (suc n) p ∷ rows) = Numbered rows
+
+-- a row that is not met is passed over, and one that is met is the answer
+pub first-passed : (n : ℕ) (p : Option ℕ) (rows : List Row) → p ≡ none → first (refuse n p ∷ rows) ≡ first rows
+unfolding first
+first-passed n p rows e = rw e
+
+pub first-met : (n : ℕ) (p : Option ℕ) (i : ℕ) (rows : List Row) → p ≡ some i → first (refuse n p ∷ rows) ≡ refusal n i
+unfolding first
+first-met n p i rows e = rw e
+
+-- success: neither this row is met nor a later one
+pub first-zero : (n : ℕ) (p : Option ℕ) (rows : List Row) → 0 < n → first (refuse n p ∷ rows) .number ≡ 0 → (p ≡ none) × (first rows .number ≡ 0)
+unfolding first
+first-zero n none rows l e = (refl, e)
+first-zero n (some i) rows l e = absurd (let z : ⊥ = omega arith in z)
+
+append-zero : (xs ys : List Row) → Numbered xs → first xs .number ≡ 0 → first (xs ++ ys) ≡ first ys
+unfolding first
+append-zero [] ys h e = refl
+append-zero (refuse zero p ∷ xs) ys h e = absurd h
+append-zero (refuse (suc n) none ∷ xs) ys h e = append-zero xs ys h e
+append-zero (refuse (suc n) (some i) ∷ xs) ys h e = absurd (let z : ⊥ = omega arith in z)
+
+append-stop : (xs ys : List Row) → (first xs .number ≡ 0 → ⊥) → first (xs ++ ys) ≡ first xs
+unfolding first
+append-stop [] ys h = absurd (h refl)
+append-stop (refuse n none ∷ xs) ys h = append-stop xs ys h
+append-stop (refuse n (some i) ∷ xs) ys h = refl
+
+-- a part of which the outcome r is no refusal
+pub part-zero : (xs : List Row) {r : Outcome} → r ≡ first xs → r .number ≡ 0 → first xs .number ≡ 0
+part-zero xs e z = ap (λ (o : Outcome). o .number) (sym e) ∙ z
+
+-- a table is tested by parts: the outcome r of the first part stands if it is a refusal, and the rest is tested if not
+pub part-refuses : (xs ys : List Row) {r : Outcome} → r ≡ first xs → (r .number ≡ 0 → ⊥) → r ≡ first (xs ++ ys)
+part-refuses xs ys e h = e ∙ sym (append-stop xs ys (λ z. h (ap (λ (o : Outcome). o .number) e ∙ z)))
+
+pub part-passes :
+    (xs ys : List Row) {r x : Outcome} → Numbered xs → r ≡ first xs → r .number ≡ 0 → x ≡ first ys → x ≡ first (xs ++ ys)
+part-passes xs ys h e z f = f ∙ sym (append-zero xs ys h (part-zero xs e z))
+
+-- the row with this number has this place, and no row before it is met
+pub record FirstMet (rows : List Row) (n p : ℕ) : Type 0 where
+  pub before : List Row
+  pub after : List Row
+  pub split : rows ≡ before ++ refuse n (some p) ∷ after
+  pub unmet : Unmet before
+
+unmet-first : (ys : List Row) {xs : List Row} → Unmet xs → first (xs ++ ys) ≡ first ys
+unfolding first
+unmet-first ys end = refl
+unmet-first ys (passed n u) = unmet-first ys u
+
+met-first : (rows : List Row) (n p : ℕ) → FirstMet rows n p → first rows ≡ refusal n p
+met-first rows n p m =
+    ap first (m .split) ∙
+    unmet-first (refuse n (some p) ∷ m .after) (m .unmet) ∙
+    first-met n (some p) p (m .after) refl
+
+first-is-met : (rows : List Row) (n p : ℕ) → 0 < n → first rows ≡ refusal n p → FirstMet rows n p
+unfolding first
+first-is-met [] n p l e = let z : 0 ≡ n = ap (λ (o : Outcome). o .number) e in absurd (let o : ⊥ = omega arith in o)
+first-is-met (refuse k none ∷ rows) n p l e =
+    let m = first-is-met rows n p l e in
+    record {
+      before = refuse k none ∷ m .before;
+      after = m .after;
+      split = ap (λ x. refuse k none ∷ x) (m .split);
+      unmet = passed k (m .unmet);
+    }
+first-is-met (refuse k (some i) ∷ rows) n p l e =
+    let a : k ≡ n = ap (λ (o : Outcome). o .number) e in
+    let b : i ≡ p = ap (λ (o : Outcome). o .place) e in
+    record { before = []; after = rows; split = cc; unmet = end }
+
+-- "each number is returned if and only if its condition is met and none tested before it is"
+pub first-iff : (rows : List Row) (n p : ℕ) → 0 < n → (first rows ≡ refusal n p) ↔ FirstMet rows n p
+first-iff rows n p l = (first-is-met rows n p l, met-first rows n p)
+
+success-unmet : (rows : List Row) → Numbered rows → first rows ≡ success → Unmet rows
+unfolding first
+success-unmet [] h e = end
+success-unmet (refuse zero p ∷ rows) h e = absurd h
+success-unmet (refuse (suc n) none ∷ rows) h e = passed (suc n) (success-unmet rows h e)
+success-unmet (refuse (suc n) (some i) ∷ rows) h e =
+    let z : suc n ≡ 0 = ap (λ (o : Outcome). o .number) e in
+    absurd (let o : ⊥ = omega arith in o)
+
+unmet-success : {rows : List Row} → Unmet rows → first rows ≡ success
+unfolding first
+unmet-success end = refl
+unmet-success (passed n u) = unmet-success u
+
+-- a call succeeds just where no row is met
+pub success-iff : (rows : List Row) → Numbered rows → (first rows ≡ success) ↔ Unmet rows
+success-iff rows h = (success-unmet rows h, λ u. unmet-success u)

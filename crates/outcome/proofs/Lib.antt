@@ -1,0 +1,4 @@
+pub mod Whole
+pub mod Lowest
+pub mod First
+pub mod Search

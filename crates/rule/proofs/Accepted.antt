@@ -1,0 +1,89 @@
+-- What an accepted rule tells: one that passes checks 10 to 16.
+use mathlib.Core.Path.{_≡_, refl, sym, ap, _∙_}
+use mathlib.Core.Bool.{Bool, true, false, not, cond, _||_, _&&_}
+use mathlib.Core.List.{List}
+use Prim.Native.Nat.{ℕ, _-_, _≤_, _<_}
+use native.Mathlib.Omega.{arith}
+use borrow.Author.Tests.{ltb-false, leb-true, leb-false, le-leb, eqb-true, not-false}
+use lib.Dec.{leb, ltb, eqb}
+use Rattle.outcome.proofs.Whole.{or-false}
+use Rattle.outcome.proofs.First.{first-zero}
+use Rattle.outcome.proofs.Lowest.{none-below}
+use Rattle.rule.specs.Bytes.{nodeCount, nodeWords, Shape}
+use Rattle.rule.specs.Form.{formOf}
+use Rattle.rule.specs.Refusals.{ruleTable, ruleRefusal, malformed, notLower, uses, wrongKind, wrongA}
+use Rattle.rule.specs.declared.NodeWords.{NodeWords}
+use Rattle.rule.proofs.Passed.{shape}
+
+-- none of the rows' conditions is met
+pub record Accepted (s : List ℕ) : Type 0 where
+  pub shape : Shape s (nodeCount s)
+  pub formed : (t : ℕ) → t < nodeCount s → malformed (nodeWords s t) ≡ false
+  pub lower : (t : ℕ) → t < nodeCount s → notLower t (nodeWords s t) ≡ false
+  pub once : (v : ℕ) → v < nodeCount s - 1 → uses s (nodeCount s) v ≡ 1
+
+pub accepted : (s : List ℕ) → ruleRefusal s .number ≡ 0 → Accepted s
+unfolding ruleTable
+accepted s e =
+    let k = nodeCount s in
+    let a = first-zero 10 _ _ (omega arith) e in
+    let b = first-zero 11 _ _ (omega arith) (a .1) in
+    let d = first-zero 12 _ _ (omega arith) (b .1) in
+    let f = first-zero 13 _ _ (omega arith) (d .1) in
+    let g = first-zero 14 _ _ (omega arith) (f .1) in
+    let h = first-zero 15 _ _ (omega arith) (g .1) in
+    let i = first-zero 16 _ _ (omega arith) (h .1) in
+    record {
+      shape = shape s refl (f .0);
+      formed = none-below (λ t. malformed (nodeWords s t)) k (g .0);
+      lower = none-below (λ t. notLower t (nodeWords s t)) k (h .0);
+      once = λ v l.
+          let z = none-below (λ v. not (eqb (uses s k v) 1)) (k - 1) (i .0) v l in
+          eqb-true (uses s k v) 1 (not-false (eqb (uses s k v) 1) z);
+    }
+
+-- the form of an operation: at most 4 for the seven alone, at least 2 where a is an operand, 3 where b is
+form-of : (op : ℕ) → (formOf op ≤ 4 → op ≤ 6) × (2 ≤ op → 2 ≤ formOf op) × (3 ≤ op → 3 ≤ formOf op)
+unfolding formOf
+form-of op = turn (leb op 2) refl (leb op 4) refl (leb op 6) refl
+  where
+    turn :
+        (a : Bool) → leb op 2 ≡ a → (b : Bool) → leb op 4 ≡ b → (d : Bool) → leb op 6 ≡ d →
+        (cond a op (cond b 3 (cond d 4 5)) ≤ 4 → op ≤ 6) ×
+        (2 ≤ op → 2 ≤ cond a op (cond b 3 (cond d 4 5))) ×
+        (3 ≤ op → 3 ≤ cond a op (cond b 3 (cond d 4 5)))
+    turn true e b f d g =
+        (λ h. omega (arith, leb-true op 2 e), λ h. h, λ h. absurd (let z : ⊥ = omega (arith, leb-true op 2 e) in z))
+    turn false e true f d g = (λ h. omega (arith, leb-true op 4 f), λ h. omega arith, λ h. omega arith)
+    turn false e false f true g = (λ h. leb-true op 6 g, λ h. omega arith, λ h. omega arith)
+    turn false e false f false g = (λ h. absurd (let z : ⊥ = omega arith in z), λ h. omega arith, λ h. omega arith)
+
+module _ {s : List ℕ} (acc : Accepted s) (t : ℕ) (l : t < nodeCount s) where
+  abbrev node : NodeWords
+  node = nodeWords s t
+
+  -- its operation is one of the seven
+  pub known : node .operation ≤ 6
+  unfolding malformed
+  known =
+      let f = formOf (node .operation) in
+      let a = or-false (ltb 4 f || wrongKind f (node .kind) || wrongA f (node .a) || (ltb f 4 && not (eqb (node .c) 0))) _ (acc .formed t l) .0 in
+      let b = or-false (ltb 4 f || wrongKind f (node .kind) || wrongA f (node .a)) _ a .0 in
+      let d = or-false (ltb 4 f || wrongKind f (node .kind)) _ b .0 in
+      form-of (node .operation) .0 (ltb-false 4 f (or-false (ltb 4 f) _ d .0))
+
+  operand-lower : (least x : ℕ) → (leb least (formOf (node .operation)) && leb t x) ≡ false → least ≤ formOf (node .operation) → x < t
+  operand-lower least x e h = leb-false t x (ap (λ b. b && leb t x) (sym (le-leb _ _ h)) ∙ e)
+
+  -- its operands are lower
+  pub lower-a : 2 ≤ node .operation → node .a < t
+  unfolding notLower
+  lower-a h =
+      let f = formOf (node .operation) in
+      operand-lower 2 (node .a) (or-false (leb 2 f && leb t (node .a)) _ (acc .lower t l) .0) (form-of (node .operation) .1 h)
+
+  pub lower-b : 3 ≤ node .operation → node .b < t
+  unfolding notLower
+  lower-b h =
+      let f = formOf (node .operation) in
+      operand-lower 3 (node .b) (or-false (leb 2 f && leb t (node .a)) _ (acc .lower t l) .1) (form-of (node .operation) .2 h)

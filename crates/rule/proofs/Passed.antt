@@ -1,0 +1,43 @@
+-- The table of refusals 10 to 16 by parts: what the rows that are passed tell.
+use mathlib.Core.Path.{_≡_, subst}
+use mathlib.Core.Bool.{false, not, _||_}
+use mathlib.Core.List.{List, [], _∷_}
+use mathlib.Core.Option.{none}
+use Prim.Native.Nat.{ℕ, _+_, _-_, _*_, _≤_, _<_}
+use native.Mathlib.Omega.{arith}
+use borrow.Author.Tests.{ltb-false, eqb-true, not-false}
+use lib.ListN.{length, drop}
+use lib.Dec.{ltb, eqb}
+use Rattle.outcome.specs.declared.Outcome.{Outcome}
+use Rattle.outcome.specs.Refusal.{whole, first, rows}
+use Rattle.outcome.proofs.Whole.{whole-none, or-false}
+use Rattle.outcome.proofs.First.{first-zero}
+use Rattle.rule.specs.Bytes.{nodeCount, Shape}
+use Rattle.rule.specs.Refusals.{ruleTable, nodeRows}
+
+module _ (s : List ℕ) where
+  module _ {k : ℕ} (ek : k ≡ nodeCount s) where
+    -- check 13 leaves the shape
+    pub shape : whole (ltb (nodeCount s) 1 || ltb 64 (nodeCount s) || not (eqb (length s) (7 + 8 * nodeCount s))) ≡ none → Shape s k
+    shape e =
+        let n = nodeCount s in
+        let l = 7 + 8 * n in
+        let a = whole-none (ltb n 1 || ltb 64 n || not (eqb (length s) l)) e in
+        let b = or-false (ltb n 1 || ltb 64 n) (not (eqb (length s) l)) a in
+        let d = or-false (ltb n 1) (ltb 64 n) (b .0) in
+        let z = eqb-true (length s) l (not-false (eqb (length s) l) (b .1)) in
+        record {
+          nodes = ek;
+          some-nodes = omega (arith, ltb-false n 1 (d .0));
+          few-nodes = omega (arith, ltb-false 64 n (d .1));
+          whole = omega arith;
+        }
+
+    pub size-passed : first (rows 3 1 (ruleTable s)) .number ≡ 0 → Shape s k
+    unfolding ruleTable
+    size-passed e = shape (first-zero 13 _ _ (omega arith) e .0)
+
+    -- rows 14 to 16 are the last three
+    pub body-last : {x : Outcome} → x ≡ first (nodeRows s k) → x ≡ first (drop 4 (ruleTable s))
+    unfolding ruleTable
+    body-last {x} = subst (λ n. x ≡ first (nodeRows s n)) ek

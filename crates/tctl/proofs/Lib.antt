@@ -1,0 +1,14 @@
+pub mod Tabulate
+pub mod Drawn
+pub mod Path
+pub mod Run
+pub mod Prefix
+pub mod Pigeonhole
+pub mod Loop
+pub mod Passing
+pub mod Forever
+pub mod Until
+pub mod SomeUntil
+pub mod Unmet
+pub mod AllAtMost
+pub mod AllAtLeast

@@ -1,0 +1,38 @@
+-- The laws of tabulate: its length, its entries and its members.
+use mathlib.Core.Path.{_≡_, refl, ap}
+use mathlib.Core.Logic.{_⊎_, inl, inr}
+use mathlib.Core.List.{List·Memᴰ, List·Memᴰ·head, List·Memᴰ·tail, List·Memᴰ·cases-cons, List·Memᴰ·not-nil}
+use Prim.Native.Nat.{ℕ, zero, suc, _<_}
+use native.Mathlib.Omega.{arith}
+use lib.ListN.{length, getD}
+use Rattle.tctl.specs.Tabulate.{tabulate}
+
+module _ {ℓ} {A : Type ℓ} where
+  pub length-tabulate : (n : ℕ) (f : ℕ → A) → length (tabulate n f) ≡ n
+  unfolding tabulate
+  length-tabulate zero f = refl
+  length-tabulate (suc n) f = ap suc (length-tabulate n (λ i. f (suc i)))
+
+  pub getD-tabulate : (n : ℕ) (f : ℕ → A) (d : A) (i : ℕ) → i < n → getD (tabulate n f) i d ≡ f i
+  unfolding tabulate
+  getD-tabulate zero f d i h = absurd (let z : ⊥ = omega arith in z)
+  getD-tabulate (suc n) f d zero h = refl
+  getD-tabulate (suc n) f d (suc i) h = getD-tabulate n (λ i. f (suc i)) d i (omega arith)
+
+  pub mem-tabulate : (n : ℕ) (f : ℕ → A) (i : ℕ) → i < n → List·Memᴰ (f i) (tabulate n f)
+  unfolding tabulate
+  mem-tabulate zero f i h = absurd (let z : ⊥ = omega arith in z)
+  mem-tabulate (suc n) f zero h = List·Memᴰ·head refl
+  mem-tabulate (suc n) f (suc i) h = List·Memᴰ·tail (mem-tabulate n (λ i. f (suc i)) i (omega arith))
+
+  pub tabulate-mem : (n : ℕ) (f : ℕ → A) {a : A} → List·Memᴰ a (tabulate n f) → (i : ℕ) × (i < n) × (a ≡ f i)
+  unfolding tabulate
+  tabulate-mem zero f m = absurd (List·Memᴰ·not-nil m)
+  tabulate-mem (suc n) f {a} m = turn (λ k. tabulate-mem n (λ i. f (suc i)) k) (List·Memᴰ·cases-cons m)
+    where
+      turn :
+          (List·Memᴰ a (tabulate n (λ i. f (suc i))) → (i : ℕ) × (i < n) × (a ≡ f (suc i))) →
+          (a ≡ f 0) ⊎ List·Memᴰ a (tabulate n (λ i. f (suc i))) →
+          (i : ℕ) × (i < suc n) × (a ≡ f i)
+      turn ih (inl e) = (0, omega arith, e)
+      turn ih (inr k) = let w = ih k in (suc (w .0), omega (arith, w .1), w .2)

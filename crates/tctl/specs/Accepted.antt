@@ -1,0 +1,26 @@
+-- What the checks of a chart ask of its meaning. The quoted conditions are rows 7, 8, 9 and 19 of 01's table.
+use mathlib.Core.Path.{_≡_}
+use mathlib.Core.List.{List·Memᴰ}
+use Prim.Native.Nat.{ℕ, _<_}
+use Rattle.tctl.specs.Chart.{Chart, Arrow, Within, states}
+
+-- arrows of the chart, one after the other from s to t, one at least, "whose fewest are all 0"
+pub data Instant (G : Chart) (t : ℕ) : ℕ → Type 0 where
+  last : {s : ℕ} (a : Arrow) → List·Memᴰ a (G .arrows) → a .start ≡ s → a .fewest ≡ 0 → a .end ≡ t → Instant G t s
+  next : {s : ℕ} (a : Arrow) → List·Memᴰ a (G .arrows) → a .start ≡ s → a .fewest ≡ 0 → Instant G t (a .end) → Instant G t s
+
+-- s is on "a loop of arrows whose fewest are all 0"
+abbrev pub OnZeroLoop : Chart → ℕ → Type 0
+OnZeroLoop G s = Instant G s s
+
+-- none of the four conditions is met
+pub record Accepted (G : Chart) : Type 0 where
+  -- 7: "arrow names a state n or above"
+  pub starts : (a : Arrow) → List·Memᴰ a (G .arrows) → a .start < states G
+  pub ends : (a : Arrow) → List·Memᴰ a (G .arrows) → a .end < states G
+  -- 8: "fewest above most, or fewest 65,535": no slot is empty
+  pub slots : (a : Arrow) → List·Memᴰ a (G .arrows) → Within (a .fewest) (a .most)
+  -- 9: "state without an outgoing arrow"
+  pub leaves : (s : ℕ) → s < states G → (a : Arrow) × List·Memᴰ a (G .arrows) × (a .start ≡ s)
+  -- 19: "a loop of arrows whose fewest are all 0"
+  pub timed : (s : ℕ) → OnZeroLoop G s → ⊥

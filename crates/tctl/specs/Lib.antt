@@ -1,0 +1,7 @@
+pub mod Tabulate
+pub mod Chart
+pub mod Run
+pub mod Formula
+pub mod Holds
+pub mod Accepted
+pub mod Kind
