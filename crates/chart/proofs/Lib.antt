@@ -1,3 +1,4 @@
 pub mod Shape
 pub mod Left
 pub mod Passed
+pub mod Accepted

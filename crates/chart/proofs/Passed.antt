@@ -2,14 +2,16 @@
 use mathlib.Core.Path.{_≡_, subst₂}
 use mathlib.Core.Bool.{false, not}
 use mathlib.Core.List.{List, [], _∷_}
+use mathlib.Core.Option.{none}
 use Prim.Native.Nat.{ℕ, _+_, _*_, _≤_, _<_}
 use native.Mathlib.Omega.{arith}
 use borrow.Author.Tests.{ltb-false, leb-false, eqb-true, not-false}
 use lib.ListN.{length, drop}
 use lib.Dec.{leb, ltb, eqb}
 use Rattle.outcome.specs.declared.Outcome.{Outcome}
-use Rattle.outcome.specs.Refusal.{first, rows}
-use Rattle.outcome.proofs.Whole.{whole-none, or-false}
+use Rattle.outcome.specs.Refusal.{whole, lowest, first, rows}
+use Rattle.truth.proofs.Truth.{or-false}
+use Rattle.outcome.proofs.Whole.{whole-none}
 use Rattle.outcome.proofs.First.{first-zero}
 use Rattle.outcome.proofs.Lowest.{none-below}
 use Rattle.chart.specs.Bytes.{stateCount, arrowCount, arrowWords, Shape}
@@ -23,16 +25,16 @@ inside a b x e =
 module _ (s : List ℕ) where
   module _ {n m : ℕ} (en : n ≡ stateCount s) (em : m ≡ arrowCount s) where
     -- checks 4 to 6 leave the shape
-    pub size-passed : first (rows 3 3 (chartTable s)) .number ≡ 0 → Shape s n m
-    unfolding chartTable
-    size-passed e =
-        let a = first-zero 4 _ _ (omega arith) e in
-        let b = first-zero 5 _ _ (omega arith) (a .1) in
-        let d = first-zero 6 _ _ (omega arith) (b .1) in
-        let x = inside 1 256 (stateCount s) (whole-none (outside 1 256 (stateCount s)) (a .0)) in
-        let y = inside 1 2048 (arrowCount s) (whole-none (outside 1 2048 (arrowCount s)) (b .0)) in
+    pub shape :
+        whole (outside 1 256 (stateCount s)) ≡ none →
+        whole (outside 1 2048 (arrowCount s)) ≡ none →
+        whole (not (eqb (length s) (9 + 2 * stateCount s + 8 * arrowCount s))) ≡ none →
+        Shape s n m
+    shape a b d =
+        let x = inside 1 256 (stateCount s) (whole-none (outside 1 256 (stateCount s)) a) in
+        let y = inside 1 2048 (arrowCount s) (whole-none (outside 1 2048 (arrowCount s)) b) in
         let l = 9 + 2 * stateCount s + 8 * arrowCount s in
-        let z = eqb-true (length s) l (not-false (eqb (length s) l) (whole-none (not (eqb (length s) l)) (d .0))) in
+        let z = eqb-true (length s) l (not-false (eqb (length s) l) (whole-none (not (eqb (length s) l)) d)) in
         record {
           states = en;
           arrows = em;
@@ -43,17 +45,29 @@ module _ (s : List ℕ) where
           whole = omega arith;
         }
 
+    pub size-passed : first (rows 3 3 (chartTable s)) .number ≡ 0 → Shape s n m
+    unfolding chartTable
+    size-passed e =
+        let a = first-zero 4 _ _ (omega arith) e in
+        let b = first-zero 5 _ _ (omega arith) (a .1) in
+        let d = first-zero 6 _ _ (omega arith) (b .1) in
+        shape (a .0) (b .0) (d .0)
+
     -- rows 7 to 9 are the last three
     pub body-last : {x : Outcome} → x ≡ first (bodyRows s n m) → x ≡ first (drop 6 (chartTable s))
     unfolding chartTable
     body-last {x} = subst₂ (λ k l. x ≡ first (bodyRows s k l)) en em
 
   -- check 7 leaves arrows that name states
+  pub named :
+      (n m : ℕ) → lowest (λ i. namesNoState n (arrowWords s i)) m ≡ none → (i : ℕ) → i < m →
+      (arrowWords s i .start < n) × (arrowWords s i .end < n)
+  named n m e i l =
+      let w = arrowWords s i in
+      let k = or-false (leb n (w .start)) (leb n (w .end)) (none-below (λ i. namesNoState n (arrowWords s i)) m e i l) in
+      (leb-false n (w .start) (k .0), leb-false n (w .end) (k .1))
+
   pub ends-passed :
       (n m : ℕ) → first (arrowRow 7 s n m ∷ []) .number ≡ 0 → (i : ℕ) → i < m →
       (arrowWords s i .start < n) × (arrowWords s i .end < n)
-  ends-passed n m e i l =
-      let w = arrowWords s i in
-      let h = none-below (λ i. namesNoState n (arrowWords s i)) m (first-zero 7 _ _ (omega arith) e .0) i l in
-      let k = or-false (leb n (w .start)) (leb n (w .end)) h in
-      (leb-false n (w .start) (k .0), leb-false n (w .end) (k .1))
+  ends-passed n m e = named n m (first-zero 7 _ _ (omega arith) e .0)

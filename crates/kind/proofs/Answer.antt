@@ -41,3 +41,10 @@ module _ (s : List ℕ) {r : KindAnswer} (out : r .outcome ≡ ruleRefusal s) wh
       kind : (k : Runs) → says (r .kind) k ≡ ruleIs s k
       kind allRuns = ap (λ x. says x allRuns) e ∙ says-all a b ∙ p ∙ accepted allRuns
       kind someRun = ap (λ x. says x someRun) e ∙ says-some a b ∙ q ∙ accepted someRun
+
+-- of an accepted rule the answer is of the kinds of its formula
+pub kind-of-formula :
+    (s : List ℕ) {r : KindAnswer} → Answered s r → r .outcome .number ≡ 0 → (k : Runs) → says (r .kind) k ≡ isOf k (formulaOf s)
+kind-of-formula s {r} h z k =
+    let e : ruleRefusal s .number ≡ 0 = ap (λ o. o .number) (sym (h .outcome)) ∙ z in
+    h .kind k ∙ ap (λ b. b && isOf k (formulaOf s)) (eq-eqb _ _ e)

@@ -57,14 +57,6 @@ module _ (k : Runs) (op : ℕ) (w : NodeWords) (at : ℕ → Formula) where
       turn (no d) (no f) (yes e) = rw e (until k)
       turn (no d) (no f) (no g) = absurd (let z : ⊥ = omega (arith, rest k n g) in z)
 
-and-true : (a b : Bool) → a ≡ true → (a && b) ≡ b
-and-true true b e = refl
-and-true false b e = absurd (let z : _≡_ {A = ℕ} 0 1 = cc in let o : ⊥ = omega arith in o)
-
-and-false : (a b : Bool) → a ≡ false → (a && b) ≡ false
-and-false true b e = absurd (let z : _≡_ {A = ℕ} 0 1 = cc in let o : ⊥ = omega arith in o)
-and-false false b e = refl
-
 -- w is node t of an accepted rule
 module _
     (s : List ℕ)
@@ -99,7 +91,7 @@ module _
     module _ (more : 2 < w .operation) (no : w .operation ≡ untilOf (other k) → ⊥) {q : Bool} (left : q ≡ isOf k (formulaAt s (w .a))) where
       pub right-returns : {r : Bool} → q ≡ true → r ≡ isOf k (formulaAt s (w .b)) → r ≡ isOf k (formulaAt s t)
       right-returns h e =
-          rw step (e ∙ sym (both k (w .operation) w (formulaAt s) more known no ∙ and-true _ _ (sym left ∙ h)))
+          rw step (e ∙ sym (both k (w .operation) w (formulaAt s) more known no ∙ ap (λ x. x && isOf k (formulaAt s (w .b))) (sym left ∙ h)))
 
       pub left-returns : q ≡ false → false ≡ isOf k (formulaAt s t)
-      left-returns h = rw step (sym (both k (w .operation) w (formulaAt s) more known no ∙ and-false _ _ (sym left ∙ h)))
+      left-returns h = rw step (sym (both k (w .operation) w (formulaAt s) more known no ∙ ap (λ x. x && isOf k (formulaAt s (w .b))) (sym left ∙ h)))

@@ -19,7 +19,7 @@ use Rattle.tctl.proofs.AllAtLeast.{Open, fails, leads, Sure, early-unmet, met-u
 use Rattle.model.specs.Every.{every}
 use Rattle.model.specs.Engine.{num, least}
 use Rattle.model.specs.Decide.{ask, plainRow, sureRow, allRow}
-use Rattle.model.proofs.Truth.{Yes, true-or-false, and-iff, and-false, or-iff, or-false}
+use Rattle.truth.proofs.Truth.{Yes, true-or-false, and-iff, and-false, or-iff, or-false}
 use Rattle.model.proofs.Every.{every-true, every-false}
 use Rattle.model.proofs.Least.{least-le, least-iff}
 use Rattle.model.proofs.Row.{asked}

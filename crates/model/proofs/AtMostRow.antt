@@ -11,7 +11,7 @@ use Rattle.tctl.proofs.Run.{Lively}
 use Rattle.tctl.proofs.AllAtMost.{Late, late-unmet, met-unless-late}
 use Rattle.model.specs.Engine.{num}
 use Rattle.model.specs.Decide.{waits, allRow}
-use Rattle.model.proofs.Truth.{Yes, yes-dec}
+use Rattle.truth.proofs.Truth.{Yes, yes-dec}
 use Rattle.model.proofs.Waiting.{waits-iff}
 use Rattle.model.proofs.Row.{asked}
 use Rattle.model.proofs.Settles.{Settles}

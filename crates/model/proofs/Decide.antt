@@ -15,7 +15,7 @@ use Rattle.tctl.specs.Accepted.{Accepted}
 use Rattle.tctl.proofs.Drawn.{Drawn, accepted-drawn}
 use Rattle.tctl.proofs.Run.{run-below}
 use Rattle.model.specs.Decide.{row, holds}
-use Rattle.model.proofs.Truth.{not-iff, and-iff, or-iff}
+use Rattle.truth.proofs.Truth.{not-iff, and-iff, or-iff}
 use Rattle.model.proofs.Row.{row-iff}
 use Rattle.model.proofs.Untils.{some-until, all-until}
 

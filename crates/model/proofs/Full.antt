@@ -8,7 +8,7 @@ use lib.ListN.{length, set}
 use lib.Dec.{leb}
 use borrow.Author.Tests.{leb-true, le-leb, lt-leb}
 use Rattle.model.specs.Engine.{num}
-use Rattle.model.proofs.Truth.{one-le, one-true}
+use Rattle.truth.proofs.Truth.{one-le, one-true}
 
 pub full : ℕ → List ℕ → ℕ
 full cap [] = 0

@@ -14,7 +14,7 @@ use Rattle.tctl.proofs.Drawn.{Drawn, step-below}
 use Rattle.tctl.proofs.Path.{Path, stop, step, steps, minutes}
 use Rattle.tctl.proofs.Loop.{shorten, pumped}
 use Rattle.model.specs.Engine.{num, round, rounds, offer, raise, greatest}
-use Rattle.model.proofs.Truth.{Yes}
+use Rattle.truth.proofs.Truth.{Yes}
 use Rattle.model.proofs.Numbers.{set-elim, Below, below-refl, below-trans}
 use Rattle.model.proofs.Rounds.{rounds-keep, round-up, round-past}
 use Rattle.model.proofs.Full.{full, full-set, full-all}

@@ -14,7 +14,7 @@ use Rattle.tctl.proofs.Drawn.{Drawn, step-below, quickest}
 use Rattle.tctl.proofs.Path.{Path, stop, step, steps, minutes}
 use Rattle.tctl.proofs.Loop.{shorten}
 use Rattle.model.specs.Engine.{num, rounds, lower, least}
-use Rattle.model.proofs.Truth.{Yes}
+use Rattle.truth.proofs.Truth.{Yes}
 use Rattle.model.proofs.Numbers.{set-elim, Below, below-refl, below-trans}
 use Rattle.model.proofs.Rounds.{rounds-keep, round-past}
 use Rattle.model.proofs.Lower.{lower-elim, lower-below, lower-does}

@@ -1,4 +1,3 @@
-pub mod Truth
 pub mod Every
 pub mod Numbers
 pub mod Rounds

@@ -10,7 +10,7 @@ use lib.Dec.{ltb}
 use borrow.Author.Tests.{ltb-true, ltb-false}
 use Rattle.tctl.specs.Chart.{Arrow}
 use Rattle.model.specs.Engine.{num, lower}
-use Rattle.model.proofs.Truth.{Yes, and-iff, and-false, cond-elim}
+use Rattle.truth.proofs.Truth.{Yes, and-iff, and-false, cond-elim}
 use Rattle.model.proofs.Numbers.{set-elim, Below, below-refl}
 
 module _ (go : ℕ → Bool) (a : Arrow) (vs : List ℕ) where

@@ -19,7 +19,7 @@ use Rattle.tctl.proofs.Unmet.{Unmet}
 use Rattle.tctl.proofs.AllAtMost.{Waits, Late, fails, lasts, fails-unmet, met-unless-late}
 use Rattle.model.specs.Engine.{num}
 use Rattle.model.specs.Decide.{waits, ticking, plainRow}
-use Rattle.model.proofs.Truth.{Yes, yes-dec}
+use Rattle.truth.proofs.Truth.{Yes, yes-dec}
 use Rattle.model.proofs.Ticks.{ticks, ticks-drawn, untick-path, ticks-le-steps, ticked, ticked-passes}
 use Rattle.model.proofs.Waiting.{waits-iff}
 use Rattle.model.proofs.Row.{asked}

@@ -10,7 +10,7 @@ use lib.Dec.{ltb}
 use borrow.Author.Tests.{ltb-true, ltb-false, lt-ltb}
 use Rattle.tctl.specs.Chart.{Arrow, Most, upTo, noEnd, Within}
 use Rattle.model.specs.Engine.{num, offer, raise}
-use Rattle.model.proofs.Truth.{Yes, and-iff, and-false, cond-elim}
+use Rattle.truth.proofs.Truth.{Yes, and-iff, and-false, cond-elim}
 use Rattle.model.proofs.Numbers.{set-elim, Below, below-refl}
 
 -- ── Offers ──

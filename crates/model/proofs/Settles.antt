@@ -12,7 +12,7 @@ use Rattle.tctl.proofs.Run.{Passes}
 use Rattle.tctl.proofs.Until.{Until, met-iff-until}
 use Rattle.tctl.proofs.Unmet.{Unmet}
 use Rattle.model.specs.Decide.{ask}
-use Rattle.model.proofs.Truth.{Yes, decides}
+use Rattle.truth.proofs.Truth.{Yes, decides}
 
 -- where the row says yes, every run meets the until; where it says no, a run does not
 pub record Settles (G : Chart) (p q : ℕ → Bool) (b : Bound) (row : List Bool) : Type 0 where

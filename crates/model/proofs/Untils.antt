@@ -18,7 +18,7 @@ use Rattle.tctl.proofs.Passing.{passes, lively}
 use Rattle.tctl.proofs.SomeUntil.{some-iff-path}
 use Rattle.model.specs.Engine.{num, least, greatest}
 use Rattle.model.specs.Decide.{ask, someRow, allRow}
-use Rattle.model.proofs.Truth.{Yes, one-le, one-true}
+use Rattle.truth.proofs.Truth.{Yes, one-le, one-true}
 use Rattle.model.proofs.Least.{least-iff}
 use Rattle.model.proofs.Greatest.{Gain, greatest-iff}
 use Rattle.model.proofs.Row.{row-iff}

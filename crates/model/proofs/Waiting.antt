@@ -11,7 +11,7 @@ use Rattle.tctl.proofs.Path.{Any, weaken, minutes-weaken}
 use Rattle.tctl.proofs.AllAtMost.{Waits, Fails, Late, fails, lasts}
 use Rattle.model.specs.Engine.{num}
 use Rattle.model.specs.Decide.{waiting, failing, waits}
-use Rattle.model.proofs.Truth.{Yes, not-iff, and-iff, or-iff, cond-elim}
+use Rattle.truth.proofs.Truth.{Yes, not-iff, and-iff, or-iff, cond-elim}
 use Rattle.model.proofs.Greatest.{Gain, greatest-iff}
 
 module _ (p q : ℕ → Bool) where

@@ -15,7 +15,7 @@ use Rattle.tctl.proofs.Tabulate.{mem-tabulate}
 use Rattle.tctl.proofs.Drawn.{Drawn}
 use Rattle.model.specs.Engine.{num, greatest, weigh}
 use Rattle.model.specs.ZeroLoop.{instants, timed}
-use Rattle.model.proofs.Truth.{cond-elim}
+use Rattle.truth.proofs.Truth.{cond-elim}
 use Rattle.model.proofs.Every.{every-true}
 use Rattle.model.proofs.Weigh.{Weighed, weighed-drawn}
 use Rattle.model.proofs.Greatest.{greatest-quiet, greatest-base}

@@ -6,7 +6,7 @@ use Prim.Native.Nat.{ℕ, _-_, _≤_, _<_}
 use native.Mathlib.Omega.{arith}
 use borrow.Author.Tests.{ltb-false, leb-true, leb-false, le-leb, eqb-true, not-false}
 use lib.Dec.{leb, ltb, eqb}
-use Rattle.outcome.proofs.Whole.{or-false}
+use Rattle.truth.proofs.Truth.{or-false}
 use Rattle.outcome.proofs.First.{first-zero}
 use Rattle.outcome.proofs.Lowest.{none-below}
 use Rattle.rule.specs.Bytes.{nodeCount, nodeWords, Shape}

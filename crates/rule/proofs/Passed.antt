@@ -10,7 +10,8 @@ use lib.ListN.{length, drop}
 use lib.Dec.{ltb, eqb}
 use Rattle.outcome.specs.declared.Outcome.{Outcome}
 use Rattle.outcome.specs.Refusal.{whole, first, rows}
-use Rattle.outcome.proofs.Whole.{whole-none, or-false}
+use Rattle.truth.proofs.Truth.{or-false}
+use Rattle.outcome.proofs.Whole.{whole-none}
 use Rattle.outcome.proofs.First.{first-zero}
 use Rattle.rule.specs.Bytes.{nodeCount, Shape}
 use Rattle.rule.specs.Refusals.{ruleTable, nodeRows}

@@ -1,4 +1,4 @@
--- Truth values: what the tests of the engine say, and proofs by them.
+-- Truth values: what a test says that is put together from others, and proofs by a test.
 use mathlib.Core.Path.{_≡_, refl, sym}
 use mathlib.Core.Logic.{_↔_, _⊎_, inl, inr}
 use mathlib.Core.Bool.{Bool, true, false, not, cond, _&&_, _||_, Bool-discrete, false≢true}

@@ -1,0 +1,108 @@
+-- What a chart that passes checks 1 to 9 tells: of its bytes, and of the chart they stand for.
+use mathlib.Core.Path.{_≡_, refl, sym, ap, subst, _∙_}
+use mathlib.Core.Bool.{Bool, true, false, not, cond}
+use mathlib.Core.List.{List, List·Memᴰ}
+use mathlib.Core.Option.{Option, none, some}
+use Prim.Native.Nat.{ℕ, _≤_, _<_}
+use native.Mathlib.Omega.{arith}
+use borrow.Author.Tests.{ltb-false, eqb-true, not-false}
+use lib.ListN.{length}
+use lib.Dec.{ltb, eqb}
+use Rattle.tctl.specs.Chart.{Arrow, upTo, noEnd, Within, states}
+use Rattle.tctl.specs.Accepted.{Accepted, OnZeroLoop}
+use Rattle.tctl.proofs.Tabulate.{length-tabulate, mem-tabulate, tabulate-mem}
+use Rattle.outcome.specs.Refusal.{lowest, found}
+use Rattle.truth.proofs.Truth.{or-false}
+use Rattle.outcome.proofs.First.{first-zero}
+use Rattle.outcome.proofs.Lowest.{Least, none-below, some-lowest}
+use Rattle.chart.specs.Bytes.{stateCount, arrowCount, labelWord, arrowWords, arrowOf, mostOf, chartOf, Shape}
+use Rattle.chart.specs.Refusals.{chartTable, chartRefusal, leftBy, namesNoState, emptySlot}
+use Rattle.chart.specs.declared.ArrowWords.{ArrowWords}
+use Rattle.chart.proofs.Passed.{shape, named}
+
+-- none of the rows' conditions is met
+pub record Checked (s : List ℕ) : Type 0 where
+  pub shape : Shape s (stateCount s) (arrowCount s)
+  pub ends :
+      (i : ℕ) → i < arrowCount s → (arrowWords s i .start < stateCount s) × (arrowWords s i .end < stateCount s)
+  pub slots : (i : ℕ) → i < arrowCount s → emptySlot (arrowWords s i) ≡ false
+  pub left : (v : ℕ) → v < stateCount s → leftBy s (arrowCount s) v ≡ true
+
+pub checked : (s : List ℕ) → chartRefusal s .number ≡ 0 → Checked s
+unfolding chartTable
+checked s e =
+    let n = stateCount s in
+    let m = arrowCount s in
+    let a = first-zero 1 _ _ (omega arith) e in
+    let b = first-zero 2 _ _ (omega arith) (a .1) in
+    let d = first-zero 3 _ _ (omega arith) (b .1) in
+    let f = first-zero 4 _ _ (omega arith) (d .1) in
+    let g = first-zero 5 _ _ (omega arith) (f .1) in
+    let h = first-zero 6 _ _ (omega arith) (g .1) in
+    let i = first-zero 7 _ _ (omega arith) (h .1) in
+    let j = first-zero 8 _ _ (omega arith) (i .1) in
+    let k = first-zero 9 _ _ (omega arith) (j .1) in
+    record {
+      shape = shape s refl refl (f .0) (g .0) (h .0);
+      ends = named s n m (i .0);
+      slots = none-below (λ i. emptySlot (arrowWords s i)) m (j .0);
+      left = λ v l. not-false (leftBy s m v) (none-below (λ v. not (leftBy s m v)) n (k .0) v l);
+    }
+
+found-some : (o : Option ℕ) → found o ≡ true → (i : ℕ) × (o ≡ some i)
+found-some (some i) e = (i, refl)
+found-some none e = absurd (let z : _≡_ {A = ℕ} 0 1 = cc in let o : ⊥ = omega arith in o)
+
+-- a slot that is not empty, read as the fewest and the most minutes
+slot-within : (w : ArrowWords) → emptySlot w ≡ false → Within (w .fewest) (mostOf (w .most))
+slot-within w e = turn (eqb (w .most) 65535)
+  where
+    fits : w .fewest ≤ w .most
+    fits = ltb-false (w .most) (w .fewest) (or-false (ltb (w .most) (w .fewest)) _ e .0)
+
+    turn : (b : Bool) → Within (w .fewest) (cond b noEnd (upTo (w .most)))
+    turn true = tt
+    turn false = fits
+
+module _ (s : List ℕ) (ok : Checked s) where
+  states-of : states (chartOf s) ≡ stateCount s
+  unfolding chartOf
+  states-of = length-tabulate (stateCount s) (labelWord s)
+
+  -- an arrow of the chart is one of the arrows of the bytes
+  arrow-of : (a : Arrow) → List·Memᴰ a (chartOf s .arrows) → (i : ℕ) × (i < arrowCount s) × (a ≡ arrowOf (arrowWords s i))
+  unfolding chartOf
+  arrow-of a m = tabulate-mem (arrowCount s) (λ i. arrowOf (arrowWords s i)) m
+
+  pub chart-named : (a : Arrow) → List·Memᴰ a (chartOf s .arrows) → (a .start < states (chartOf s)) × (a .end < states (chartOf s))
+  chart-named a m =
+      let x = arrow-of a m in
+      let y = ok .ends (x .0) (x .1) in
+      let e = ap (λ (b : Arrow). b .start) (x .2) in
+      let f = ap (λ (b : Arrow). b .end) (x .2) in
+      (omega (arith, y .0, states-of), omega (arith, y .1, states-of))
+
+  chart-slots : (a : Arrow) → List·Memᴰ a (chartOf s .arrows) → Within (a .fewest) (a .most)
+  chart-slots a m =
+      let x = arrow-of a m in
+      subst (λ b. Within (b .fewest) (b .most)) (sym (x .2)) (slot-within (arrowWords s (x .0)) (ok .slots (x .0) (x .1)))
+
+  chart-left : (v : ℕ) → v < states (chartOf s) → (a : Arrow) × List·Memᴰ a (chartOf s .arrows) × (a .start ≡ v)
+  unfolding chartOf leftBy
+  chart-left v l =
+      let p : ℕ → Bool = λ i. eqb (arrowWords s i .start) v in
+      let x = found-some (lowest p (arrowCount s)) (ok .left v (omega (arith, states-of))) in
+      let y = some-lowest p (arrowCount s) (x .0) (x .1) in
+      let w = arrowWords s (x .0) in
+      (arrowOf w, mem-tabulate (arrowCount s) (λ i. arrowOf (arrowWords s i)) (x .0) (y .inside), eqb-true (w .start) v (y .offends))
+
+  -- with check 19 passed too, the chart is accepted
+  pub chart-accepted : ((v : ℕ) → OnZeroLoop (chartOf s) v → ⊥) → Accepted (chartOf s)
+  chart-accepted timed =
+      record {
+        starts = λ a m. chart-named a m .0;
+        ends = λ a m. chart-named a m .1;
+        slots = chart-slots;
+        leaves = chart-left;
+        timed = timed;
+      }

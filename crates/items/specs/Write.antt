@@ -1,0 +1,30 @@
+-- Charts and rules written as bytes (01, "Bytes of a chart, a rule and a map").
+use mathlib.Core.List.{List, [], _∷_, _++_}
+use Prim.Native.Nat.{ℕ, _+_, _*_, _/_, _%_}
+use lib.ListN.{length}
+
+-- "Numbers are big-endian."
+abbrev pub word : ℕ → List ℕ
+word w = w / 256 ∷ w % 256 ∷ []
+
+-- "Byte 0 is the version, 1. Bytes 1 to 4 give the length of the whole, these five bytes included."
+abbrev pub headed : List ℕ → List ℕ
+headed body =
+    let l = length body + 5 in
+    1 ∷ word (l / 65536) ++ word (l % 65536) ++ body
+
+-- "8 bytes: start, end, fewest, most"
+abbrev pub arrow : ℕ → ℕ → ℕ → ℕ → List ℕ
+arrow start end fewest most = word start ++ word end ++ word fewest ++ word most
+
+-- "n in bytes 5 to 6, arrow count m in 7 to 8; n label words of 2 bytes ..; m arrows"
+abbrev pub chart : ℕ → ℕ → List ℕ → List ℕ → List ℕ
+chart n m labels arrows = headed (word n ++ word m ++ labels ++ arrows)
+
+-- "8 bytes: operation (1 byte), bound kind (1), a, b, c (2 each)"
+abbrev pub node : ℕ → ℕ → ℕ → ℕ → ℕ → List ℕ
+node operation kind a b c = operation ∷ kind ∷ word a ++ word b ++ word c
+
+-- "node count k in bytes 5 to 6, k nodes"
+abbrev pub rule : ℕ → List ℕ → List ℕ
+rule k nodes = headed (word k ++ nodes)
