@@ -1,22 +1,22 @@
 -- What a chart that passes checks 1 to 9 tells: of its bytes, and of the chart they stand for.
-use mathlib.Core.Path.{_≡_, refl, sym, ap, subst, _∙_}
+use mathlib.Core.Path.{_≡_, refl, sym, ap, subst}
 use mathlib.Core.Bool.{Bool, true, false, not, cond}
 use mathlib.Core.List.{List, List·Memᴰ}
 use mathlib.Core.Option.{Option, none, some}
 use Prim.Native.Nat.{ℕ, _≤_, _<_}
 use native.Mathlib.Omega.{arith}
-use borrow.Author.Tests.{ltb-false, eqb-true, not-false}
-use lib.ListN.{length}
 use lib.Dec.{ltb, eqb}
+use borrow.Author.Tests.{ltb-false, eqb-true, not-false}
+use Rattle.truth.proofs.Truth.{or-false}
 use Rattle.tctl.specs.Chart.{Arrow, upTo, noEnd, Within, states}
 use Rattle.tctl.specs.Accepted.{Accepted, OnZeroLoop}
 use Rattle.tctl.proofs.Tabulate.{length-tabulate, mem-tabulate, tabulate-mem}
 use Rattle.outcome.specs.Refusal.{lowest, found}
-use Rattle.truth.proofs.Truth.{or-false}
 use Rattle.outcome.proofs.First.{first-zero}
-use Rattle.outcome.proofs.Lowest.{Least, none-below, some-lowest}
-use Rattle.chart.specs.Bytes.{stateCount, arrowCount, labelWord, arrowWords, arrowOf, mostOf, chartOf, Shape}
-use Rattle.chart.specs.Refusals.{chartTable, chartRefusal, leftBy, namesNoState, emptySlot}
+use Rattle.outcome.proofs.Lowest.{none-below, some-lowest}
+use Rattle.chart.specs.Bytes.{stateCount, arrowCount, labelWord, arrowWords, arrowOf, mostOf, chartOf}
+use Rattle.chart.specs.Shape.{Shape}
+use Rattle.chart.specs.Refusals.{chartTable, chartRefusal, leftBy, emptySlot}
 use Rattle.chart.specs.declared.ArrowWords.{ArrowWords}
 use Rattle.chart.proofs.Passed.{shape, named}
 

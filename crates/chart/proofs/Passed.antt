@@ -5,17 +5,19 @@ use mathlib.Core.List.{List, [], _∷_}
 use mathlib.Core.Option.{none}
 use Prim.Native.Nat.{ℕ, _+_, _*_, _≤_, _<_}
 use native.Mathlib.Omega.{arith}
-use borrow.Author.Tests.{ltb-false, leb-false, eqb-true, not-false}
 use lib.ListN.{length, drop}
 use lib.Dec.{leb, ltb, eqb}
+use borrow.Author.Tests.{ltb-false, leb-false, eqb-true, not-false}
+use Rattle.truth.proofs.Truth.{or-false}
 use Rattle.outcome.specs.declared.Outcome.{Outcome}
 use Rattle.outcome.specs.Refusal.{whole, lowest, first, rows}
-use Rattle.truth.proofs.Truth.{or-false}
 use Rattle.outcome.proofs.Whole.{whole-none}
 use Rattle.outcome.proofs.First.{first-zero}
 use Rattle.outcome.proofs.Lowest.{none-below}
-use Rattle.chart.specs.Bytes.{stateCount, arrowCount, arrowWords, Shape}
-use Rattle.chart.specs.Refusals.{chartTable, arrowRow, bodyRows, outside, namesNoState}
+use Rattle.chart.specs.Bytes.{stateCount, arrowCount, arrowWords}
+use Rattle.chart.specs.Shape.{Shape}
+use Rattle.chart.specs.Refusals.{chartTable, outside, namesNoState}
+use Rattle.chart.specs.Parts.{arrowRow, bodyRows}
 
 inside : (a b x : ℕ) → outside a b x ≡ false → (a ≤ x) × (x ≤ b)
 inside a b x e =

@@ -1,9 +1,8 @@
 -- The shape of a chart that passes checks 1 to 6.
-use mathlib.Core.Path.{_≡_}
 use mathlib.Core.List.{List}
 use Prim.Native.Nat.{ℕ, _<_}
 use native.Mathlib.Omega.{arith}
-use Rattle.chart.specs.Bytes.{Shape, Inside}
+use Rattle.chart.specs.Shape.{Shape, Inside}
 
 -- each arrow lies in the bytes
 pub arrow-inside : {s : List ℕ} {n m i : ℕ} → Shape s n m → i < m → Inside s n i

@@ -1,9 +1,7 @@
 -- A chart's bytes. The quoted sentences are of 01, "Bytes of a chart, a rule and a map".
-use mathlib.Core.Path.{_≡_}
 use mathlib.Core.Bool.{cond}
 use mathlib.Core.List.{List}
-use Prim.Native.Nat.{ℕ, _+_, _*_, _≤_, _<_}
-use lib.ListN.{length, getD}
+use Prim.Native.Nat.{ℕ, _+_, _*_}
 use lib.Dec.{eqb}
 use Rattle.words.specs.Word.{word}
 use Rattle.tctl.specs.Tabulate.{tabulate}
@@ -43,25 +41,3 @@ arrowOf w = record { start = w .start; end = w .end; fewest = w .fewest; most = 
 unfoldable pub chartOf : List ℕ → Chart
 chartOf s =
     record { labels = tabulate (stateCount s) (labelWord s); arrows = tabulate (arrowCount s) (λ i. arrowOf (arrowWords s i)) }
-
--- the words of an arrow are of two bytes
-pub record Small (w : ArrowWords) : Type 0 where
-  pub start : w .start < 65536
-  pub end : w .end < 65536
-  pub fewest : w .fewest < 65536
-  pub most : w .most < 65536
-
--- n states, and arrow i lies in the bytes
-pub record Inside (s : List ℕ) (n i : ℕ) : Type 0 where
-  pub states : n ≡ stateCount s
-  pub whole : arrowPlace s i + 8 ≤ length s
-
--- n states and m arrows, as checks 1 to 6 leave them
-pub record Shape (s : List ℕ) (n m : ℕ) : Type 0 where
-  pub states : n ≡ stateCount s
-  pub arrows : m ≡ arrowCount s
-  pub some-states : 1 ≤ n
-  pub few-states : n ≤ 256
-  pub some-arrows : 1 ≤ m
-  pub few-arrows : m ≤ 2048
-  pub whole : length s ≡ 9 + 2 * n + 8 * m

@@ -1,5 +1,5 @@
 -- Refusals 1 to 9: the rows of 01's table, in its order and its words.
-use mathlib.Core.Bool.{Bool, true, false, not, cond, _||_}
+use mathlib.Core.Bool.{Bool, not, _||_}
 use mathlib.Core.List.{List, [], _∷_}
 use Prim.Native.Nat.{ℕ, _+_, _*_}
 use lib.ListN.{length}
@@ -52,19 +52,3 @@ chartTable s =
 
 abbrev pub chartRefusal : List ℕ → Outcome
 chartRefusal s = first (chartTable s)
-
--- an arrow's fault: that of row 7, or that of row 8
-abbrev pub offends : ℕ → ℕ → ArrowWords → Bool
-offends row n w = cond (eqb row 7) (namesNoState n w) (emptySlot w)
-
--- row 7, or row 8
-abbrev pub arrowRow : ℕ → List ℕ → ℕ → ℕ → Row
-arrowRow row s n m = refuse row (lowest (λ i. offends row n (arrowWords s i)) m)
-
--- row 9
-abbrev pub stateRow : List ℕ → ℕ → ℕ → Row
-stateRow s n m = refuse 9 (lowest (λ v. not (leftBy s m v)) n)
-
--- rows 7 to 9, of a chart with n states and m arrows
-abbrev pub bodyRows : List ℕ → ℕ → ℕ → List Row
-bodyRows s n m = arrowRow 7 s n m ∷ arrowRow 8 s n m ∷ stateRow s n m ∷ []

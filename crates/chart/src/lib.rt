@@ -2,7 +2,8 @@
 ghost use mathlib.Core.Path.{_≡_};
 ghost use Prim.Native.Nat.{_+_, _*_, _≤_, _<_};
 ghost use lib.ListN.{length};
-ghost use Rattle.chart.specs.Bytes.{stateCount, arrowCount, labelWord, arrowWords, Small, Inside};
+ghost use Rattle.chart.specs.Bytes.{stateCount, arrowCount, labelWord, arrowWords};
+ghost use Rattle.chart.specs.Shape.{Small, Inside};
 
 pub mod refusals;
 

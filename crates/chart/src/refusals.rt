@@ -5,8 +5,10 @@ ghost use mathlib.Core.List.{[], _∷_};
 ghost use Prim.Native.Nat.{ℕ, _+_, _*_, _≤_, _<_};
 ghost use lib.ListN.{length, getD};
 ghost use Rattle.outcome.specs.Refusal.{first, rows};
-ghost use Rattle.chart.specs.Bytes.{arrowWords, Shape};
-ghost use Rattle.chart.specs.Refusals.{chartTable, chartRefusal, offends, arrowRow, stateRow, bodyRows, leftBy};
+ghost use Rattle.chart.specs.Bytes.{arrowWords};
+ghost use Rattle.chart.specs.Shape.{Shape};
+ghost use Rattle.chart.specs.Refusals.{chartTable, chartRefusal, leftBy};
+ghost use Rattle.chart.specs.Parts.{offends, arrowRow, stateRow, bodyRows};
 use crate::ArrowWords;
 use outcome::Outcome;
 

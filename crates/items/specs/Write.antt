@@ -1,6 +1,6 @@
 -- Charts and rules written as bytes (01, "Bytes of a chart, a rule and a map").
 use mathlib.Core.List.{List, [], _∷_, _++_}
-use Prim.Native.Nat.{ℕ, _+_, _*_, _/_, _%_}
+use Prim.Native.Nat.{ℕ, _+_, _/_, _%_}
 use lib.ListN.{length}
 
 -- "Numbers are big-endian."

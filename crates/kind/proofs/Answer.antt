@@ -8,8 +8,7 @@ use Rattle.tctl.specs.Kind.{Runs, allRuns, someRun, isOf}
 use Rattle.rule.specs.Refusals.{ruleRefusal}
 use Rattle.rule.specs.Formula.{formulaOf}
 use Rattle.kind.specs.Kind.{says, kindFor, ruleIs, Answered}
-use Rattle.kind.specs.declared.Kind.{Kind}
-use Rattle.kind.specs.declared.Kind.the-variants.{AllRuns, SomeRun, Both, Neither}
+use Rattle.kind.specs.declared.Kind.the-variants.{Neither}
 use Rattle.kind.specs.declared.KindAnswer.{KindAnswer}
 
 says-all : (a b : Bool) → says (kindFor a b) allRuns ≡ a

@@ -7,6 +7,7 @@ use Prim.Native.Nat.{ℕ, suc, _≤_, _<_}
 use native.Mathlib.Omega.{arith}
 use lib.Dec.{leb, eqb}
 use borrow.Author.Tests.{leb-true, leb-false, eqb-true, eqb-false, not-true, not-false}
+use Rattle.truth.proofs.Truth.{Yes, true-or-false, and-iff, and-false, or-iff, or-false}
 use Rattle.tctl.specs.Chart.{Chart, Arrow, states}
 use Rattle.tctl.specs.Run.{Run, Step}
 use Rattle.tctl.specs.Formula.{atLeast}
@@ -19,7 +20,6 @@ use Rattle.tctl.proofs.AllAtLeast.{Open, fails, leads, Sure, early-unmet, met-u
 use Rattle.model.specs.Every.{every}
 use Rattle.model.specs.Engine.{num, least}
 use Rattle.model.specs.Decide.{ask, plainRow, sureRow, allRow}
-use Rattle.truth.proofs.Truth.{Yes, true-or-false, and-iff, and-false, or-iff, or-false}
 use Rattle.model.proofs.Every.{every-true, every-false}
 use Rattle.model.proofs.Least.{least-le, least-iff}
 use Rattle.model.proofs.Row.{asked}

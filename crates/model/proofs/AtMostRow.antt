@@ -4,6 +4,7 @@ use Prim.Native.Nat.{ℕ, suc}
 use native.Mathlib.Omega.{arith}
 use lib.Dec.{leb}
 use borrow.Author.Tests.{leb-true, leb-false}
+use Rattle.truth.proofs.Truth.{Yes, yes-dec}
 use Rattle.tctl.specs.Chart.{Chart, states}
 use Rattle.tctl.specs.Formula.{atMost}
 use Rattle.tctl.proofs.Drawn.{Drawn}
@@ -11,7 +12,6 @@ use Rattle.tctl.proofs.Run.{Lively}
 use Rattle.tctl.proofs.AllAtMost.{Late, late-unmet, met-unless-late}
 use Rattle.model.specs.Engine.{num}
 use Rattle.model.specs.Decide.{waits, allRow}
-use Rattle.truth.proofs.Truth.{Yes, yes-dec}
 use Rattle.model.proofs.Waiting.{waits-iff}
 use Rattle.model.proofs.Row.{asked}
 use Rattle.model.proofs.Settles.{Settles}

@@ -7,6 +7,7 @@ use Prim.Native.Nat.{ℕ, _<_, _/_, _%_, _^_}
 use lib.ListN.{getD}
 use lib.Dec.{eqb}
 use borrow.Author.Tests.{eqb-true, eq-eqb}
+use Rattle.truth.proofs.Truth.{not-iff, and-iff, or-iff}
 use Rattle.tctl.specs.Chart.{Chart, states}
 use Rattle.tctl.specs.Run.{Run}
 use Rattle.tctl.specs.Formula.{Bound, Formula, always, label, not, and, or, someUntil, allUntil}
@@ -15,7 +16,6 @@ use Rattle.tctl.specs.Accepted.{Accepted}
 use Rattle.tctl.proofs.Drawn.{Drawn, accepted-drawn}
 use Rattle.tctl.proofs.Run.{run-below}
 use Rattle.model.specs.Decide.{row, holds}
-use Rattle.truth.proofs.Truth.{not-iff, and-iff, or-iff}
 use Rattle.model.proofs.Row.{row-iff}
 use Rattle.model.proofs.Untils.{some-until, all-until}
 

@@ -4,8 +4,8 @@ use mathlib.Core.Logic.{_⊎_, inl, inr, ⊎-elim}
 use mathlib.Core.List.{List, [], _∷_}
 use mathlib.Core.List.{List·Memᴰ, List·Memᴰ·head, List·Memᴰ·tail, List·Memᴰ·cases-cons, List·Memᴰ·not-nil}
 use mathlib.Core.Bool.{Bool, true, false, false≢true}
-use Rattle.model.specs.Every.{every}
 use Rattle.truth.proofs.Truth.{and-iff, and-false, true-or-false}
+use Rattle.model.specs.Every.{every}
 
 module _ {A : Type 0} (f : A → Bool) where
   pub every-true : (l : List A) → every f l ≡ true → {a : A} → List·Memᴰ a l → f a ≡ true

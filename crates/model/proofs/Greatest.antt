@@ -6,6 +6,7 @@ use mathlib.Core.Bool.{Bool, true, false, cond}
 use Prim.Native.Nat.{ℕ, zero, suc, _+_, _≤_, _<_, min}
 use native.Mathlib.Omega.{arith}
 use lib.ListN.{length, set, length-set}
+use Rattle.truth.proofs.Truth.{Yes}
 use Rattle.tctl.specs.Tabulate.{tabulate}
 use Rattle.tctl.specs.Chart.{Chart, Arrow, Within, states}
 use Rattle.tctl.specs.Run.{Step}
@@ -14,12 +15,10 @@ use Rattle.tctl.proofs.Drawn.{Drawn, step-below}
 use Rattle.tctl.proofs.Path.{Path, stop, step, steps, minutes}
 use Rattle.tctl.proofs.Loop.{shorten, pumped}
 use Rattle.model.specs.Engine.{num, round, rounds, offer, raise, greatest}
-use Rattle.truth.proofs.Truth.{Yes}
 use Rattle.model.proofs.Numbers.{set-elim, Below, below-refl, below-trans}
 use Rattle.model.proofs.Rounds.{rounds-keep, round-up, round-past}
 use Rattle.model.proofs.Full.{full, full-set, full-all}
-use Rattle.model.proofs.Raise.{offer-le, offer-mono, offer-step, offer-duration}
-use Rattle.model.proofs.Raise.{Offered, raise-elim, raise-below, raise-offers}
+use Rattle.model.proofs.Raise.{offer-le, offer-mono, offer-step, offer-duration, Offered, raise-elim, raise-below, raise-offers}
 
 -- a path through go whose minutes and the base of its last state come to v; from a base of 0 there is none
 pub record Gain (G : Chart) (go : ℕ → Bool) (base : ℕ → ℕ) (s v : ℕ) : Type 0 where

@@ -6,6 +6,7 @@ use mathlib.Core.Bool.{Bool, true, false, cond}
 use Prim.Native.Nat.{ℕ, zero, suc, _+_, _≤_, _<_}
 use native.Mathlib.Omega.{arith}
 use lib.ListN.{length, set}
+use Rattle.truth.proofs.Truth.{Yes}
 use Rattle.tctl.specs.Tabulate.{tabulate}
 use Rattle.tctl.specs.Chart.{Chart, Arrow, states}
 use Rattle.tctl.specs.Run.{Step}
@@ -14,7 +15,6 @@ use Rattle.tctl.proofs.Drawn.{Drawn, step-below, quickest}
 use Rattle.tctl.proofs.Path.{Path, stop, step, steps, minutes}
 use Rattle.tctl.proofs.Loop.{shorten}
 use Rattle.model.specs.Engine.{num, rounds, lower, least}
-use Rattle.truth.proofs.Truth.{Yes}
 use Rattle.model.proofs.Numbers.{set-elim, Below, below-refl, below-trans}
 use Rattle.model.proofs.Rounds.{rounds-keep, round-past}
 use Rattle.model.proofs.Lower.{lower-elim, lower-below, lower-does}

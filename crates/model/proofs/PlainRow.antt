@@ -6,6 +6,7 @@ use Prim.Native.Nat.{ℕ, suc, _≤_, _<_}
 use native.Mathlib.Omega.{arith}
 use lib.Dec.{leb}
 use borrow.Author.Tests.{leb-true, leb-false}
+use Rattle.truth.proofs.Truth.{Yes, yes-dec}
 use Rattle.tctl.specs.Chart.{Chart, states}
 use Rattle.tctl.specs.Run.{Run}
 use Rattle.tctl.specs.Formula.{atLeast}
@@ -19,7 +20,6 @@ use Rattle.tctl.proofs.Unmet.{Unmet}
 use Rattle.tctl.proofs.AllAtMost.{Waits, Late, fails, lasts, fails-unmet, met-unless-late}
 use Rattle.model.specs.Engine.{num}
 use Rattle.model.specs.Decide.{waits, ticking, plainRow}
-use Rattle.truth.proofs.Truth.{Yes, yes-dec}
 use Rattle.model.proofs.Ticks.{ticks, ticks-drawn, untick-path, ticks-le-steps, ticked, ticked-passes}
 use Rattle.model.proofs.Waiting.{waits-iff}
 use Rattle.model.proofs.Row.{asked}

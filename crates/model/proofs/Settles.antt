@@ -4,6 +4,7 @@ use mathlib.Core.Logic.{_↔_}
 use mathlib.Core.List.{List}
 use mathlib.Core.Bool.{Bool, true, false}
 use Prim.Native.Nat.{ℕ, _<_}
+use Rattle.truth.proofs.Truth.{Yes, decides}
 use Rattle.tctl.specs.Chart.{Chart, states}
 use Rattle.tctl.specs.Run.{Run}
 use Rattle.tctl.specs.Formula.{Bound}
@@ -12,7 +13,6 @@ use Rattle.tctl.proofs.Run.{Passes}
 use Rattle.tctl.proofs.Until.{Until, met-iff-until}
 use Rattle.tctl.proofs.Unmet.{Unmet}
 use Rattle.model.specs.Decide.{ask}
-use Rattle.truth.proofs.Truth.{Yes, decides}
 
 -- where the row says yes, every run meets the until; where it says no, a run does not
 pub record Settles (G : Chart) (p q : ℕ → Bool) (b : Bound) (row : List Bool) : Type 0 where

@@ -6,6 +6,7 @@ use Prim.Native.Nat.{ℕ, zero, suc, _+_, _≤_, _<_}
 use native.Mathlib.Omega.{arith}
 use lib.Dec.{ltb}
 use borrow.Author.Tests.{ltb-true, lt-ltb}
+use Rattle.truth.proofs.Truth.{Yes, one-le, one-true}
 use Rattle.tctl.specs.Chart.{Chart, states}
 use Rattle.tctl.specs.Run.{Run}
 use Rattle.tctl.specs.Formula.{Bound, Meets, atMost, atLeast}
@@ -18,7 +19,6 @@ use Rattle.tctl.proofs.Passing.{passes, lively}
 use Rattle.tctl.proofs.SomeUntil.{some-iff-path}
 use Rattle.model.specs.Engine.{num, least, greatest}
 use Rattle.model.specs.Decide.{ask, someRow, allRow}
-use Rattle.truth.proofs.Truth.{Yes, one-le, one-true}
 use Rattle.model.proofs.Least.{least-iff}
 use Rattle.model.proofs.Greatest.{Gain, greatest-iff}
 use Rattle.model.proofs.Row.{row-iff}

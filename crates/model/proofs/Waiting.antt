@@ -5,13 +5,13 @@ use mathlib.Core.Bool.{Bool, true, not, cond, _||_}
 use Prim.Native.Nat.{ℕ, suc, _≤_, _<_}
 use native.Mathlib.Omega.{arith}
 use native.Mathlib.Decide.{decLe}
+use Rattle.truth.proofs.Truth.{Yes, not-iff, and-iff, or-iff, cond-elim}
 use Rattle.tctl.specs.Chart.{Chart, states}
 use Rattle.tctl.proofs.Drawn.{Drawn}
 use Rattle.tctl.proofs.Path.{Any, weaken, minutes-weaken}
 use Rattle.tctl.proofs.AllAtMost.{Waits, Fails, Late, fails, lasts}
 use Rattle.model.specs.Engine.{num}
 use Rattle.model.specs.Decide.{waiting, failing, waits}
-use Rattle.truth.proofs.Truth.{Yes, not-iff, and-iff, or-iff, cond-elim}
 use Rattle.model.proofs.Greatest.{Gain, greatest-iff}
 
 module _ (p q : ℕ → Bool) where

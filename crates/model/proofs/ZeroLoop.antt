@@ -8,6 +8,7 @@ use Prim.Native.Nat.{ℕ, suc, _≤_, _<_}
 use native.Mathlib.Omega.{arith}
 use lib.Dec.{leb, eqb}
 use borrow.Author.Tests.{leb-true, eq-eqb}
+use Rattle.truth.proofs.Truth.{cond-elim}
 use Rattle.tctl.specs.Tabulate.{tabulate}
 use Rattle.tctl.specs.Chart.{Chart, Arrow, upTo, states}
 use Rattle.tctl.specs.Accepted.{Instant, last, next, OnZeroLoop}
@@ -15,7 +16,6 @@ use Rattle.tctl.proofs.Tabulate.{mem-tabulate}
 use Rattle.tctl.proofs.Drawn.{Drawn}
 use Rattle.model.specs.Engine.{num, greatest, weigh}
 use Rattle.model.specs.ZeroLoop.{instants, timed}
-use Rattle.truth.proofs.Truth.{cond-elim}
 use Rattle.model.proofs.Every.{every-true}
 use Rattle.model.proofs.Weigh.{Weighed, weighed-drawn}
 use Rattle.model.proofs.Greatest.{greatest-quiet, greatest-base}

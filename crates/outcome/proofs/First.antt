@@ -1,14 +1,12 @@
 -- The first row that is met.
-use mathlib.Core.Path.{_≡_, refl, sym, ap, subst, _∙_}
+use mathlib.Core.Path.{_≡_, refl, sym, ap, _∙_}
 use mathlib.Core.Logic.{_↔_}
-use mathlib.Core.Bool.{Bool, true, false, _&&_}
 use mathlib.Core.List.{List, [], _∷_, _++_}
 use mathlib.Core.Option.{Option, none, some}
 use Prim.Native.Nat.{ℕ, zero, suc, _<_}
 use native.Mathlib.Omega.{arith}
-use lib.ListN.{take, drop, take-append-drop}
 use Rattle.outcome.specs.declared.Outcome.{Outcome}
-use Rattle.outcome.specs.Refusal.{Row, refuse, orLater, first, refusal, success}
+use Rattle.outcome.specs.Refusal.{Row, refuse, first, refusal, success}
 
 -- no row is met
 pub data Unmet : List Row → Type 0 where

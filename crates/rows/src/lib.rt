@@ -1,5 +1,4 @@
 // The call row: the part of the overview's or the detail's marks table that holds a row, itself and not a copy.
-ghost use mathlib.Core.Path.{_≡_};
 ghost use Rattle.rows.specs.Row.{chosen, Part, placeOf};
 
 // Which of the two tables.

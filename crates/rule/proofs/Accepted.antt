@@ -4,12 +4,13 @@ use mathlib.Core.Bool.{Bool, true, false, not, cond, _||_, _&&_}
 use mathlib.Core.List.{List}
 use Prim.Native.Nat.{ℕ, _-_, _≤_, _<_}
 use native.Mathlib.Omega.{arith}
-use borrow.Author.Tests.{ltb-false, leb-true, leb-false, le-leb, eqb-true, not-false}
 use lib.Dec.{leb, ltb, eqb}
+use borrow.Author.Tests.{ltb-false, leb-true, leb-false, le-leb, eqb-true, not-false}
 use Rattle.truth.proofs.Truth.{or-false}
 use Rattle.outcome.proofs.First.{first-zero}
 use Rattle.outcome.proofs.Lowest.{none-below}
-use Rattle.rule.specs.Bytes.{nodeCount, nodeWords, Shape}
+use Rattle.rule.specs.Bytes.{nodeCount, nodeWords}
+use Rattle.rule.specs.Shape.{Shape}
 use Rattle.rule.specs.Form.{formOf}
 use Rattle.rule.specs.Refusals.{ruleTable, ruleRefusal, malformed, notLower, uses, wrongKind, wrongA}
 use Rattle.rule.specs.declared.NodeWords.{NodeWords}

@@ -1,9 +1,9 @@
 -- The fault of row 14, by its parts.
-use mathlib.Core.Path.{_≡_, ap, _∙_}
+use mathlib.Core.Path.{_≡_, ap}
 use mathlib.Core.Bool.{Bool, false, not, _||_, _&&_}
 use Prim.Native.Nat.{ℕ, _<_, _≤_}
-use borrow.Author.Tests.{lt-ltb, le-ltb}
 use lib.Dec.{eqb, ltb}
+use borrow.Author.Tests.{lt-ltb, le-ltb}
 use Rattle.rule.specs.Form.{formOf}
 use Rattle.rule.specs.Refusals.{wrongKind, wrongA, malformed}
 use Rattle.rule.specs.declared.NodeWords.{NodeWords}

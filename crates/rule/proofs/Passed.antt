@@ -1,20 +1,22 @@
 -- The table of refusals 10 to 16 by parts: what the rows that are passed tell.
 use mathlib.Core.Path.{_≡_, subst}
-use mathlib.Core.Bool.{false, not, _||_}
-use mathlib.Core.List.{List, [], _∷_}
+use mathlib.Core.Bool.{not, _||_}
+use mathlib.Core.List.{List}
 use mathlib.Core.Option.{none}
-use Prim.Native.Nat.{ℕ, _+_, _-_, _*_, _≤_, _<_}
+use Prim.Native.Nat.{ℕ, _+_, _*_}
 use native.Mathlib.Omega.{arith}
-use borrow.Author.Tests.{ltb-false, eqb-true, not-false}
 use lib.ListN.{length, drop}
 use lib.Dec.{ltb, eqb}
+use borrow.Author.Tests.{ltb-false, eqb-true, not-false}
+use Rattle.truth.proofs.Truth.{or-false}
 use Rattle.outcome.specs.declared.Outcome.{Outcome}
 use Rattle.outcome.specs.Refusal.{whole, first, rows}
-use Rattle.truth.proofs.Truth.{or-false}
 use Rattle.outcome.proofs.Whole.{whole-none}
 use Rattle.outcome.proofs.First.{first-zero}
-use Rattle.rule.specs.Bytes.{nodeCount, Shape}
-use Rattle.rule.specs.Refusals.{ruleTable, nodeRows}
+use Rattle.rule.specs.Bytes.{nodeCount}
+use Rattle.rule.specs.Shape.{Shape}
+use Rattle.rule.specs.Refusals.{ruleTable}
+use Rattle.rule.specs.Parts.{nodeRows}
 
 module _ (s : List ℕ) where
   module _ {k : ℕ} (ek : k ≡ nodeCount s) where

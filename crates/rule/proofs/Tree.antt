@@ -1,14 +1,14 @@
 -- The tree of an accepted rule: each node's formula from those of its operands.
-use mathlib.Core.Path.{_≡_, refl, ap, _∙_}
+use mathlib.Core.Path.{_≡_, refl, ap}
 use mathlib.Core.Bool.{Bool, true, false, cond}
 use mathlib.Core.List.{List}
 use Prim.Native.Nat.{ℕ, zero, suc, _≤_, _<_}
 use native.Mathlib.Omega.{arith}
-use borrow.Author.Tests.{eqb-true, eqb-false}
 use lib.Dec.{eqb}
-use Rattle.tctl.specs.Formula.{Formula, not, and, or, someUntil, allUntil}
+use borrow.Author.Tests.{eqb-false}
+use Rattle.tctl.specs.Formula.{Formula, not}
 use Rattle.rule.specs.Bytes.{nodeCount, nodeWords}
-use Rattle.rule.specs.Formula.{operation, boundOf, formulaBy, formulaAt}
+use Rattle.rule.specs.Formula.{operation, formulaBy, formulaAt}
 use Rattle.rule.specs.declared.NodeWords.{NodeWords}
 use Rattle.rule.proofs.Accepted.{Accepted, lower-a, lower-b}
 

@@ -1,5 +1,5 @@
 -- Refusals 10 to 16: the rows of 01's table, in its order and its words.
-use mathlib.Core.Bool.{Bool, true, false, not, cond, _||_, _&&_}
+use mathlib.Core.Bool.{Bool, not, cond, _||_, _&&_}
 use mathlib.Core.List.{List, [], _∷_}
 use Prim.Native.Nat.{ℕ, zero, suc, _+_, _-_, _*_}
 use lib.ListN.{length}
@@ -71,16 +71,3 @@ ruleTable s =
 
 abbrev pub ruleRefusal : List ℕ → Outcome
 ruleRefusal s = first (ruleTable s)
-
--- a node's fault: that of row 14, of row 15 or of row 16
-abbrev pub offends : ℕ → List ℕ → ℕ → ℕ → Bool
-offends row s k t =
-    cond (eqb row 14) (malformed (nodeWords s t)) (cond (eqb row 15) (notLower t (nodeWords s t)) (not (eqb (uses s k t) 1)))
-
--- one of rows 14 to 16, over the first nodes
-abbrev pub nodeRow : ℕ → List ℕ → ℕ → ℕ → Row
-nodeRow row s k count = refuse row (lowest (offends row s k) count)
-
--- rows 14 to 16 of a rule with k nodes
-abbrev pub nodeRows : List ℕ → ℕ → List Row
-nodeRows s k = nodeRow 14 s k k ∷ nodeRow 15 s k k ∷ nodeRow 16 s k (k - 1) ∷ []

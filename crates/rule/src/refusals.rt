@@ -1,11 +1,12 @@
 // Refusals 10 to 16 of a rule.
 ghost use mathlib.Core.Path.{_≡_};
 ghost use mathlib.Core.List.{[], _∷_};
-ghost use Prim.Native.Nat.{ℕ, _+_, _*_, _≤_, _<_};
+ghost use Prim.Native.Nat.{_+_, _*_, _≤_, _<_};
 ghost use lib.ListN.{length};
 ghost use Rattle.outcome.specs.Refusal.{first, rows};
-ghost use Rattle.rule.specs.Bytes.{nodeWords, Shape};
-ghost use Rattle.rule.specs.Refusals.{ruleTable, ruleRefusal, wrongKind, wrongA, malformed, notLower, names, usesIn, uses, offends, nodeRow, nodeRows};
+ghost use Rattle.rule.specs.Shape.{Shape};
+ghost use Rattle.rule.specs.Refusals.{ruleTable, ruleRefusal, wrongKind, wrongA, malformed, notLower, names, usesIn, uses};
+ghost use Rattle.rule.specs.Parts.{offends, nodeRow, nodeRows};
 use crate::NodeWords;
 use outcome::Outcome;
 

@@ -1,6 +1,6 @@
 -- "Numbers are big-endian" (01, "Bytes of a chart, a rule and a map").
-use Prim.Native.Nat.{ℕ, _+_, _*_}
 use mathlib.Core.List.{List}
+use Prim.Native.Nat.{ℕ, _+_, _*_}
 use lib.ListN.{getD}
 
 -- the number of two bytes from i on

@@ -1,64 +1,47 @@
-use Rattle.chart.specs.Bytes.{arrowWords, Small}
 use borrow.Author.Needs.{needs}
+use Rattle.chart.specs.Bytes.{arrowWords}
 use Rattle.chart.proofs.arrow_at.Statement.{statement}
 use Rattle.chart.proofs.arrow_at.Tie as tie
-use Rattle.chart.proofs.arrow_at.Reads as reads
-use Rattle.chart.proofs.arrow_at.Lts as lts
-use Rattle.words.proofs.be16.Reads as be16-reads
 
--- src/lib.rt:46:18
 mul-at : tie.Need-mul-at
 mul-at c = search needs
 
--- src/lib.rt:46:14
 add-at : tie.Need-add-at
 add-at c = search needs
 
--- src/lib.rt:46:26
 mul-at-2 : tie.Need-mul-at-2
 mul-at-2 c = search needs
 
--- src/lib.rt:46:14
 add-at-2 : tie.Need-add-at-2
 add-at-2 c = search needs
 
--- src/lib.rt:48:16
 be16-requires : tie.Need-be16-requires
 be16-requires c κs = search needs
 
--- src/lib.rt:48:16
 cast-t5 : tie.Need-cast-t5
 cast-t5 c = search needs
 
--- src/lib.rt:49:33
 add-be16 : tie.Need-add-be16
 add-be16 c = search needs
 
--- src/lib.rt:49:14
 be16-requires-2 : tie.Need-be16-requires-2
 be16-requires-2 c κs = search needs
 
--- src/lib.rt:49:14
 cast-t6 : tie.Need-cast-t6
 cast-t6 c = search needs
 
--- src/lib.rt:50:36
 add-be16-2 : tie.Need-add-be16-2
 add-be16-2 c = search needs
 
--- src/lib.rt:50:17
 be16-requires-3 : tie.Need-be16-requires-3
 be16-requires-3 c κs = search needs
 
--- src/lib.rt:51:34
 add-be16-3 : tie.Need-add-be16-3
 add-be16-3 c = search needs
 
--- src/lib.rt:51:15
 be16-requires-4 : tie.Need-be16-requires-4
 be16-requires-4 c κs = search needs
 
--- src/lib.rt:42:1
 returns : tie.Need-returns
 unfolding arrowWords
 returns c =

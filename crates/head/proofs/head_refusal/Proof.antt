@@ -1,59 +1,43 @@
-use borrow.Author.Tests.{lt-ltb, le-ltb, eq-eqb, ne-eqb}
 use mathlib.Core.Path.{sym, _∙_}
-use Rattle.outcome.specs.Refusal.{first}
+use borrow.Author.Tests.{lt-ltb, le-ltb, eq-eqb, ne-eqb}
 use borrow.Author.Needs.{needs}
+use Rattle.outcome.specs.Refusal.{first}
 use Rattle.head.proofs.head_refusal.Statement.{statement}
 use Rattle.head.proofs.head_refusal.Tie as tie
-use Rattle.head.proofs.head_refusal.Reads as reads
-use Rattle.head.proofs.head_refusal.Lts as lts
-use Rattle.outcome.proofs.accepted.Reads as accepted-reads
-use Rattle.outcome.proofs.refused.Reads as refused-reads
-use Rattle.words.proofs.be32.Reads as be32-reads
 
--- src/lib.rt:14:9
 refused-requires : tie.Need-refused-requires
 refused-requires c κs = search needs
 
--- src/lib.rt:14:9
 returns : tie.Need-returns
 unfolding first
 returns c = simp (lt-ltb _ _ (c .before .if1 .taken)) (c .refused .ensures)
 
--- src/lib.rt:16:8
 shared-slice-read-if2 : tie.Need-shared-slice-read-if2
 shared-slice-read-if2 c = search needs
 
--- src/lib.rt:17:33
 add-refused : tie.Need-add-refused
 add-refused c = search needs
 
--- src/lib.rt:17:9
 refused-requires-2 : tie.Need-refused-requires-2
 refused-requires-2 c κs = search needs
 
--- src/lib.rt:17:9
 returns-2 : tie.Need-returns-2
 unfolding first
 returns-2 c =
     simp (le-ltb _ _ (c .before .before .before .if1 .left), ne-eqb _ _ (c .before .if2 .taken)) (c .refused2 .ensures)
 
--- src/lib.rt:19:18
 be32-requires : tie.Need-be32-requires
 be32-requires c κs = search needs
 
--- src/lib.rt:19:18
 cast-stated : tie.Need-cast-stated
 cast-stated c = search needs
 
--- src/lib.rt:21:33
 add-refused-2 : tie.Need-add-refused-2
 add-refused-2 c = search needs
 
--- src/lib.rt:21:9
 refused-requires-3 : tie.Need-refused-requires-3
 refused-requires-3 c κs = search needs
 
--- src/lib.rt:21:9
 returns-3 : tie.Need-returns-3
 unfolding first
 returns-3 c =
@@ -64,11 +48,9 @@ returns-3 c =
       ne-eqb _ _ (λ e. c .before .if3 .taken (k ∙ e)),
     ) (c .refused3 .ensures)
 
--- src/lib.rt:23:5
 accepted-requires : tie.Need-accepted-requires
 accepted-requires c κs = search needs
 
--- src/lib.rt:9:1
 returns-4 : tie.Need-returns-4
 unfolding first
 returns-4 c =

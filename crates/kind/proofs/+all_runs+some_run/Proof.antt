@@ -1,8 +1,12 @@
 -- The two tests meet their contracts: each return is a law of Steps, and the node number falls at each call.
+use Prim.Native.Nat.{ℕ, _<_}
 use native.Mathlib.Omega.{arith}
+use borrow.Fn.Kinds.{In}
+use borrow.Fn.PlainCycle.{Measures, is, falls, and}
 use denote.Ref.{now}
 use Rattle.tctl.specs.Kind.{allRuns, someRun}
 use Rattle.rule.proofs.Accepted as rule
+use Rattle.rule.proofs.node_at.Reads as node-at-reads
 use Rattle.kind.proofs.Steps.{
   a-lower,
   b-lower,
@@ -12,16 +16,12 @@ use Rattle.kind.proofs.Steps.{
   right-returns,
   left-returns,
 }
-use Prim.Native.Nat.{ℕ, _<_}
-use borrow.Fn.Kinds.{In}
-use borrow.Fn.PlainCycle.{Measures, is, falls, and}
 use Rattle.kind.proofs.all_runs.Reads as all-runs
 use Rattle.kind.proofs.all_runs.Kinds as all-runs-kinds
 use Rattle.kind.proofs.+all_runs+some_run.Lts-all_runs as all-runs-lts
 use Rattle.kind.proofs.some_run.Reads as some-run
 use Rattle.kind.proofs.some_run.Kinds as some-run-kinds
 use Rattle.kind.proofs.+all_runs+some_run.Lts-some_run as some-run-lts
-use Rattle.rule.proofs.node_at.Reads as node-at-reads
 use Rattle.kind.proofs.+all_runs+some_run.{statement}
 use Rattle.kind.proofs.+all_runs+some_run.Tie.{close}
 
@@ -51,14 +51,12 @@ all-runs-calls t = (node-at-reads.Asked, node-at-reads.Learnt, some-run-below t,
 abbrev some-run-calls : ℕ → some-run-lts.Claims
 some-run-calls t = (node-at-reads.Asked, node-at-reads.Learnt, all-runs-below t, all-runs.Post, some-run-below t, some-run.Post)
 
--- src/lib.rt:28:9
 all-runs-node-at-requires : (t : ℕ) → all-runs-lts.Need-node-at-requires (all-runs-calls t) (all-runs-at t) all-runs.Post
 all-runs-node-at-requires t c κs =
     let w = c .before in
     let h = rule.accepted (now (w .args .rule)) (w .pre .1 .0) .shape in
     omega (arith, h .whole, w .pre .1 .1)
 
--- src/lib.rt:30:9
 all-runs-returns : (t : ℕ) → all-runs-lts.Need-returns (all-runs-calls t) (all-runs-at t) all-runs.Post
 all-runs-returns t c =
     let w = c .before .before .before .before in
@@ -66,7 +64,6 @@ all-runs-returns t c =
     let e = c .before .before .node-at .ensures .0 in
     leaf-returns s (w .pre .1 .0) (w .args .t) (w .pre .1 .1) e allRuns (c .if1 .taken)
 
--- src/lib.rt:33:9
 all-runs-some-run-requires : (t : ℕ) → all-runs-lts.Need-some-run-requires (all-runs-calls t) (all-runs-at t) all-runs.Post
 all-runs-some-run-requires t c κs =
     let w = c .before .before .before .before .before .before in
@@ -75,7 +72,6 @@ all-runs-some-run-requires t c κs =
     let h = a-lower s (w .pre .1 .0) (w .args .t) (w .pre .1 .1) e (omega arith) in
     (omega (arith, h, w .pre .0), (w .pre .1 .0, omega (arith, h, w .pre .1 .1)))
 
--- src/lib.rt:33:9
 all-runs-returns-2 : (t : ℕ) → all-runs-lts.Need-returns-2 (all-runs-calls t) (all-runs-at t) all-runs.Post
 all-runs-returns-2 t c =
     let w = c .before .before .before .before .before .before .before in
@@ -83,7 +79,6 @@ all-runs-returns-2 t c =
     let e = c .before .before .before .before .before .node-at .ensures .0 in
     not-returns s (w .pre .1 .0) (w .args .t) (w .pre .1 .1) e allRuns (c .before .if2 .taken) (c .some-run .ensures)
 
--- src/lib.rt:36:9
 all-runs-returns-3 : (t : ℕ) → all-runs-lts.Need-returns-3 (all-runs-calls t) (all-runs-at t) all-runs.Post
 all-runs-returns-3 t c =
     let w = c .before .before .before .before .before .before .before .before in
@@ -91,7 +86,6 @@ all-runs-returns-3 t c =
     let e = c .before .before .before .before .before .before .node-at .ensures .0 in
     until-returns s (w .pre .1 .0) (w .args .t) (w .pre .1 .1) e allRuns (c .if3 .taken)
 
--- src/lib.rt:38:8
 all-runs-all-runs-requires : (t : ℕ) → all-runs-lts.Need-all-runs-requires (all-runs-calls t) (all-runs-at t) all-runs.Post
 all-runs-all-runs-requires t c κs =
     let w = c .before .before .before .before .before .before .before .before in
@@ -100,7 +94,6 @@ all-runs-all-runs-requires t c κs =
     let h = a-lower s (w .pre .1 .0) (w .args .t) (w .pre .1 .1) e (omega arith) in
     (omega (arith, h, w .pre .0), (w .pre .1 .0, omega (arith, h, w .pre .1 .1)))
 
--- src/lib.rt:39:9
 all-runs-all-runs-requires-2 : (t : ℕ) → all-runs-lts.Need-all-runs-requires-2 (all-runs-calls t) (all-runs-at t) all-runs.Post
 all-runs-all-runs-requires-2 t c κs =
     let w = c .before .before .before .before .before .before .before .before .before .before in
@@ -109,7 +102,6 @@ all-runs-all-runs-requires-2 t c κs =
     let h = b-lower s (w .pre .1 .0) (w .args .t) (w .pre .1 .1) e (omega arith) in
     (omega (arith, h, w .pre .0), (w .pre .1 .0, omega (arith, h, w .pre .1 .1)))
 
--- src/lib.rt:39:9
 all-runs-returns-4 : (t : ℕ) → all-runs-lts.Need-returns-4 (all-runs-calls t) (all-runs-at t) all-runs.Post
 all-runs-returns-4 t c =
     let w = c .before .before .before .before .before .before .before .before .before .before .before in
@@ -118,7 +110,6 @@ all-runs-returns-4 t c =
     right-returns s (w .pre .1 .0) (w .args .t) (w .pre .1 .1) e allRuns (omega arith) (c .before .before .before .if3 .left) (c .before .before .all-runs .ensures) (c .before .if4 .taken)
     (c .all-runs2 .ensures)
 
--- src/lib.rt:24:1
 all-runs-returns-5 : (t : ℕ) → all-runs-lts.Need-returns-5 (all-runs-calls t) (all-runs-at t) all-runs.Post
 all-runs-returns-5 t c =
     let w = c .before .before .before .before .before .before .before .before .before .before in
@@ -126,14 +117,12 @@ all-runs-returns-5 t c =
     let e = c .before .before .before .before .before .before .before .before .node-at .ensures .0 in
     left-returns s (w .pre .1 .0) (w .args .t) (w .pre .1 .1) e allRuns (omega arith) (c .before .before .if3 .left) (c .before .all-runs .ensures) (c .if4 .left)
 
--- src/lib.rt:49:9
 some-run-node-at-requires : (t : ℕ) → some-run-lts.Need-node-at-requires (some-run-calls t) (some-run-at t) some-run.Post
 some-run-node-at-requires t c κs =
     let w = c .before in
     let h = rule.accepted (now (w .args .rule)) (w .pre .1 .0) .shape in
     omega (arith, h .whole, w .pre .1 .1)
 
--- src/lib.rt:51:9
 some-run-returns : (t : ℕ) → some-run-lts.Need-returns (some-run-calls t) (some-run-at t) some-run.Post
 some-run-returns t c =
     let w = c .before .before .before .before in
@@ -141,7 +130,6 @@ some-run-returns t c =
     let e = c .before .before .node-at .ensures .0 in
     leaf-returns s (w .pre .1 .0) (w .args .t) (w .pre .1 .1) e someRun (c .if1 .taken)
 
--- src/lib.rt:54:9
 some-run-all-runs-requires : (t : ℕ) → some-run-lts.Need-all-runs-requires (some-run-calls t) (some-run-at t) some-run.Post
 some-run-all-runs-requires t c κs =
     let w = c .before .before .before .before .before .before in
@@ -150,7 +138,6 @@ some-run-all-runs-requires t c κs =
     let h = a-lower s (w .pre .1 .0) (w .args .t) (w .pre .1 .1) e (omega arith) in
     (omega (arith, h, w .pre .0), (w .pre .1 .0, omega (arith, h, w .pre .1 .1)))
 
--- src/lib.rt:54:9
 some-run-returns-2 : (t : ℕ) → some-run-lts.Need-returns-2 (some-run-calls t) (some-run-at t) some-run.Post
 some-run-returns-2 t c =
     let w = c .before .before .before .before .before .before .before in
@@ -158,7 +145,6 @@ some-run-returns-2 t c =
     let e = c .before .before .before .before .before .node-at .ensures .0 in
     not-returns s (w .pre .1 .0) (w .args .t) (w .pre .1 .1) e someRun (c .before .if2 .taken) (c .all-runs .ensures)
 
--- src/lib.rt:57:9
 some-run-returns-3 : (t : ℕ) → some-run-lts.Need-returns-3 (some-run-calls t) (some-run-at t) some-run.Post
 some-run-returns-3 t c =
     let w = c .before .before .before .before .before .before .before .before in
@@ -166,7 +152,6 @@ some-run-returns-3 t c =
     let e = c .before .before .before .before .before .before .node-at .ensures .0 in
     until-returns s (w .pre .1 .0) (w .args .t) (w .pre .1 .1) e someRun (c .if3 .taken)
 
--- src/lib.rt:59:8
 some-run-some-run-requires : (t : ℕ) → some-run-lts.Need-some-run-requires (some-run-calls t) (some-run-at t) some-run.Post
 some-run-some-run-requires t c κs =
     let w = c .before .before .before .before .before .before .before .before in
@@ -175,7 +160,6 @@ some-run-some-run-requires t c κs =
     let h = a-lower s (w .pre .1 .0) (w .args .t) (w .pre .1 .1) e (omega arith) in
     (omega (arith, h, w .pre .0), (w .pre .1 .0, omega (arith, h, w .pre .1 .1)))
 
--- src/lib.rt:60:9
 some-run-some-run-requires-2 : (t : ℕ) → some-run-lts.Need-some-run-requires-2 (some-run-calls t) (some-run-at t) some-run.Post
 some-run-some-run-requires-2 t c κs =
     let w = c .before .before .before .before .before .before .before .before .before .before in
@@ -184,7 +168,6 @@ some-run-some-run-requires-2 t c κs =
     let h = b-lower s (w .pre .1 .0) (w .args .t) (w .pre .1 .1) e (omega arith) in
     (omega (arith, h, w .pre .0), (w .pre .1 .0, omega (arith, h, w .pre .1 .1)))
 
--- src/lib.rt:60:9
 some-run-returns-4 : (t : ℕ) → some-run-lts.Need-returns-4 (some-run-calls t) (some-run-at t) some-run.Post
 some-run-returns-4 t c =
     let w = c .before .before .before .before .before .before .before .before .before .before .before in
@@ -193,7 +176,6 @@ some-run-returns-4 t c =
     right-returns s (w .pre .1 .0) (w .args .t) (w .pre .1 .1) e someRun (omega arith) (c .before .before .before .if3 .left) (c .before .before .some-run .ensures) (c .before .if4 .taken)
     (c .some-run2 .ensures)
 
--- src/lib.rt:45:1
 some-run-returns-5 : (t : ℕ) → some-run-lts.Need-returns-5 (some-run-calls t) (some-run-at t) some-run.Post
 some-run-returns-5 t c =
     let w = c .before .before .before .before .before .before .before .before .before .before in

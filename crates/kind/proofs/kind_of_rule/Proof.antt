@@ -1,23 +1,17 @@
-use native.Mathlib.Omega.{arith}
 use mathlib.Core.Path.{_≡_, refl, sym, ap, _∙_}
 use Prim.Native.Nat.{_-_}
+use native.Mathlib.Omega.{arith}
+use borrow.Author.Needs.{needs}
 use denote.Ref.{now}
 use Rattle.tctl.specs.Kind.{allRuns, someRun, isOf}
-use Rattle.rule.specs.Bytes.{nodeCount, Shape}
+use Rattle.rule.specs.Bytes.{nodeCount}
+use Rattle.rule.specs.Shape.{Shape}
 use Rattle.rule.specs.Refusals.{ruleRefusal}
 use Rattle.rule.specs.Formula.{formulaAt}
 use Rattle.rule.proofs.Accepted as rule
 use Rattle.kind.proofs.Answer.{refused, answered}
-use borrow.Author.Needs.{needs}
 use Rattle.kind.proofs.kind_of_rule.Statement.{statement}
 use Rattle.kind.proofs.kind_of_rule.Tie as tie
-use Rattle.kind.proofs.kind_of_rule.Reads as reads
-use Rattle.kind.proofs.kind_of_rule.Lts as lts
-use Rattle.kind.proofs.all_runs.Reads as all-runs-reads
-use Rattle.kind.proofs.kind_for.Reads as kind-for-reads
-use Rattle.kind.proofs.some_run.Reads as some-run-reads
-use Rattle.rule.proofs.node_count.Reads as node-count-reads
-use Rattle.rule.proofs.refusals.rule_refusal.Reads as rule-refusal-reads
 
 -- past the test the rule is accepted
 passed : (c : tie.Else1) → ruleRefusal (now (c .before .before .before .before .args .rule)) .number ≡ 0
@@ -26,36 +20,28 @@ passed c = ap (λ o. o .number) (sym (c .before .before .rule-refusal .ensures))
 shape : (c : tie.Else1) → let s = now (c .before .before .before .before .args .rule) in Shape s (nodeCount s)
 shape c = rule.accepted _ (passed c) .shape
 
--- src/lib.rt:84:9
 rule-refusal-requires : tie.Need-rule-refusal-requires
 rule-refusal-requires c κs = search needs
 
--- src/lib.rt:86:9
 returns : tie.Need-returns
 returns c =
     refused (now (c .before .before .before .before .args .rule)) (c .before .before .rule-refusal .ensures) (c .if1 .taken) refl
 
--- src/lib.rt:91:16
 node-count-requires : tie.Need-node-count-requires
 node-count-requires c κs = let h = shape c in omega (arith, h .whole, h .some-nodes)
 
--- src/lib.rt:91:16
 sub-last : tie.Need-sub-last
 sub-last c = let h = shape (c .before) in omega (arith, h .some-nodes)
 
--- src/lib.rt:92:25
 all-runs-requires : tie.Need-all-runs-requires
 all-runs-requires c κs = let h = shape (c .before) in (passed (c .before), omega (arith, h .some-nodes))
 
--- src/lib.rt:92:47
 some-run-requires : tie.Need-some-run-requires
 some-run-requires c κs = let h = shape (c .before .before) in (passed (c .before .before), omega (arith, h .some-nodes))
 
--- src/lib.rt:92:9
 kind-for-requires : tie.Need-kind-for-requires
 kind-for-requires c κs = search needs
 
--- src/lib.rt:81:1
 returns-2 : tie.Need-returns-2
 returns-2 c =
     let s = now (c .before .before .before .before .before .before .before .before .args .rule) in

@@ -1,16 +1,14 @@
-use borrow.Author.Tests.{lt-ltb, le-ltb, le-leb, lt-leb}
+use mathlib.Core.Path.{refl, ap}
+use Prim.Native.Nat.{_+_, _*_, _≤_}
 use native.Mathlib.Omega.{arith}
 use native.Mathlib.Nat.{add-sub-cancel-left}
-use mathlib.Core.Path.{refl, ap}
-use Prim.Native.Nat.{ℕ, _+_, _*_, _≤_}
 use lib.ListN.{length, take, drop}
+use borrow.Author.Tests.{lt-ltb, le-ltb, le-leb, lt-leb}
+use borrow.Author.Needs.{needs}
 use denote.Ref.{now}
 use Rattle.rows.proofs.Place.{inside, outside}
-use borrow.Author.Needs.{needs}
 use Rattle.rows.proofs.part.Statement.{statement}
 use Rattle.rows.proofs.part.Tie as tie
-use Rattle.rows.proofs.part.Reads as reads
-use Rattle.rows.proofs.part.Lts as lts
 
 -- past the two tests the row lies in the table
 within :
@@ -18,41 +16,32 @@ within :
     c .before .before .args .t * c .before .before .args .n + c .before .before .args .n ≤ length (now (c .before .before .args .table))
 within c = inside _ _ _ (c .before .if1 .left) (c .if2 .left)
 
--- src/lib.rt:16:16
 sub-result : tie.Need-sub-result
 sub-result c = search needs
 
--- src/lib.rt:16:16
 part-result-start : tie.Need-part-result-start
 part-result-start c = search needs
 
--- src/lib.rt:16:16
 part-result-end : tie.Need-part-result-end
 part-result-end c = search needs
 
--- src/lib.rt:16:9
 returns : tie.Need-returns
 returns c =
     let a = c .before .before .args in
     simp (le-ltb 0 (a .n) (omega arith)) (record { bytes = refl; pointer = ap (λ k. (a .table .ptr .0, k)) (omega arith) })
 
--- src/lib.rt:18:8
 div-if2 : tie.Need-div-if2
 div-if2 c = search needs
 
--- src/lib.rt:19:16
 sub-result-2 : tie.Need-sub-result-2
 sub-result-2 c = search needs
 
--- src/lib.rt:19:16
 part-result-start-2 : tie.Need-part-result-start-2
 part-result-start-2 c = search needs
 
--- src/lib.rt:19:16
 part-result-end-2 : tie.Need-part-result-end-2
 part-result-end-2 c = search needs
 
--- src/lib.rt:19:9
 returns-2 : tie.Need-returns-2
 returns-2 c =
     let a = c .before .before .before .args in
@@ -61,27 +50,21 @@ returns-2 c =
     record { bytes = refl; pointer = ap (λ k. (a .table .ptr .0, k)) (omega arith) }
     )
 
--- src/lib.rt:21:17
 mul-start : tie.Need-mul-start
 mul-start c = omega (arith, within c)
 
--- src/lib.rt:22:15
 add-end : tie.Need-add-end
 add-end c = omega (arith, within c)
 
--- src/lib.rt:23:5
 sub-result-3 : tie.Need-sub-result-3
 sub-result-3 c = search needs
 
--- src/lib.rt:23:5
 part-result-start-3 : tie.Need-part-result-start-3
 part-result-start-3 c = search needs
 
--- src/lib.rt:23:5
 part-result-end-3 : tie.Need-part-result-end-3
 part-result-end-3 c = within c
 
--- src/lib.rt:12:1
 returns-3 : tie.Need-returns-3
 returns-3 c =
     let a = c .before .before .before .args in

@@ -1,31 +1,22 @@
 use borrow.Author.Needs.{needs}
 use Rattle.rows.proofs.row.Statement.{statement}
 use Rattle.rows.proofs.row.Tie as tie
-use Rattle.rows.proofs.row.Reads as reads
-use Rattle.rows.proofs.row.Lts as lts
-use Rattle.rows.proofs.part.Reads as part-reads
 
--- src/lib.rt:31:29
 enum-told : tie.Need-enum-told
 enum-told c = search needs
 
--- src/lib.rt:31:29
 part-requires : tie.Need-part-requires
 part-requires c κs = search needs
 
--- src/lib.rt:32:27
 enum-told-2 : tie.Need-enum-told-2
 enum-told-2 c = search needs
 
--- src/lib.rt:32:27
 part-requires-2 : tie.Need-part-requires-2
 part-requires-2 c κs = search needs
 
--- src/lib.rt:26:1
 returns : tie.Need-returns
 returns c = rw (c .before .enum-told .given .1) (c .part .ensures)
 
--- src/lib.rt:26:1
 returns-2 : tie.Need-returns-2
 returns-2 c = rw (c .before .enum-told2 .given .1) (c .part2 .ensures)
 

@@ -1,64 +1,47 @@
-use Rattle.rule.specs.Bytes.{nodeWords}
 use borrow.Author.Needs.{needs}
+use Rattle.rule.specs.Bytes.{nodeWords}
 use Rattle.rule.proofs.node_at.Statement.{statement}
 use Rattle.rule.proofs.node_at.Tie as tie
-use Rattle.rule.proofs.node_at.Reads as reads
-use Rattle.rule.proofs.node_at.Lts as lts
-use Rattle.words.proofs.be16.Reads as be16-reads
 
--- src/lib.rt:30:18
 mul-at : tie.Need-mul-at
 mul-at c = search needs
 
--- src/lib.rt:30:14
 add-at : tie.Need-add-at
 add-at c = search needs
 
--- src/lib.rt:32:20
 shared-slice-read-t6 : tie.Need-shared-slice-read-t6
 shared-slice-read-t6 c = search needs
 
--- src/lib.rt:33:20
 add-t4 : tie.Need-add-t4
 add-t4 c = search needs
 
--- src/lib.rt:33:15
 shared-slice-read-t8 : tie.Need-shared-slice-read-t8
 shared-slice-read-t8 c = search needs
 
--- src/lib.rt:34:30
 add-be16 : tie.Need-add-be16
 add-be16 c = search needs
 
--- src/lib.rt:34:12
 be16-requires : tie.Need-be16-requires
 be16-requires c κs = search needs
 
--- src/lib.rt:34:12
 cast-t11 : tie.Need-cast-t11
 cast-t11 c = search needs
 
--- src/lib.rt:35:30
 add-be16-2 : tie.Need-add-be16-2
 add-be16-2 c = search needs
 
--- src/lib.rt:35:12
 be16-requires-2 : tie.Need-be16-requires-2
 be16-requires-2 c κs = search needs
 
--- src/lib.rt:35:12
 cast-t14 : tie.Need-cast-t14
 cast-t14 c = search needs
 
--- src/lib.rt:36:30
 add-be16-3 : tie.Need-add-be16-3
 add-be16-3 c = search needs
 
--- src/lib.rt:36:12
 be16-requires-3 : tie.Need-be16-requires-3
 be16-requires-3 c κs = search needs
 
--- src/lib.rt:26:1
 returns : tie.Need-returns
 unfolding nodeWords
 returns c = (cc, record { a = search needs; b = search needs; c = search needs })

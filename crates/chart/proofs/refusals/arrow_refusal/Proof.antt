@@ -1,24 +1,16 @@
+use mathlib.Core.Path.{_≡_, sym, ap, _∙_}
+use mathlib.Core.Bool.{Bool, false}
+use Prim.Native.Nat.{ℕ, _≤_, _<_, _-_}
+use native.Mathlib.Omega.{arith}
 use borrow.Author.Count.{below-none, below-more}
 use borrow.Author.Needs.{needs}
-use native.Mathlib.Omega.{arith}
-use mathlib.Core.Path.{_≡_, sym, ap, _∙_}
-use mathlib.Core.Bool.{Bool, true, false}
-use mathlib.Core.List.{List}
-use Prim.Native.Nat.{ℕ, _≤_, _<_, _-_}
-use denote.Ref.{now}
 use Rattle.outcome.proofs.Search.{search-found, search-ended}
 use Rattle.chart.specs.declared.ArrowWords.{ArrowWords}
 use Rattle.chart.specs.Bytes.{arrowWords}
-use Rattle.chart.specs.Refusals.{offends}
+use Rattle.chart.specs.Parts.{offends}
 use Rattle.chart.proofs.Shape.{arrow-inside}
 use Rattle.chart.proofs.refusals.arrow_refusal.Statement.{statement}
 use Rattle.chart.proofs.refusals.arrow_refusal.Tie as tie
-use Rattle.chart.proofs.refusals.arrow_refusal.Reads as reads
-use Rattle.chart.proofs.refusals.arrow_refusal.Lts as lts
-use Rattle.chart.proofs.arrow_at.Reads as arrow-at-reads
-use Rattle.chart.proofs.refusals.offending.Reads as offending-reads
-use Rattle.outcome.proofs.accepted.Reads as accepted-reads
-use Rattle.outcome.proofs.refused.Reads as refused-reads
 
 abbrev Inv-loop : tie.InvT-loop
 Inv-loop chart n m row i₀ i =
@@ -31,27 +23,21 @@ abbrev μ-loop : tie.MeasureT-loop
 told : (row n : ℕ) {w v : ArrowWords} {b d : Bool} → w ≡ v → b ≡ offends row n w → b ≡ d → offends row n v ≡ d
 told row n e f g = ap (offends row n) (sym e) ∙ sym f ∙ g
 
--- src/refusals.rt:71:5
 loop-holds : tie.Need-loop-holds Inv-loop μ-loop
 loop-holds c = (omega arith, below-none _)
 
--- src/refusals.rt:72:13
 arrow-at-requires : tie.Need-arrow-at-requires Inv-loop μ-loop
 arrow-at-requires c κs = arrow-inside (c .before .before .before .pre) (c .loop-test .taken)
 
--- src/refusals.rt:73:12
 offending-requires : tie.Need-offending-requires Inv-loop μ-loop
 offending-requires c κs = search needs
 
--- src/refusals.rt:74:42
 cast-refused : tie.Need-cast-refused Inv-loop μ-loop
 cast-refused c = omega (arith, c .before .before .before .before .before .before .pre .few-arrows)
 
--- src/refusals.rt:74:13
 refused-requires : tie.Need-refused-requires Inv-loop μ-loop
 refused-requires c κs = search needs
 
--- src/refusals.rt:74:13
 returns : tie.Need-returns Inv-loop μ-loop
 returns c =
     let a = c .before .before .before .before .before .before .before .args in
@@ -65,15 +51,12 @@ returns c =
     }
     )
 
--- src/refusals.rt:76:9
 add-i : tie.Need-add-i Inv-loop μ-loop
 add-i c = omega arith
 
--- src/refusals.rt:71:5
 loop-less : tie.Need-loop-less Inv-loop μ-loop
 loop-less c = omega arith
 
--- src/refusals.rt:71:5
 loop-again : tie.Need-loop-again Inv-loop μ-loop
 loop-again c =
     let a = c .before .before .before .before .before .before .args in (
@@ -83,11 +66,9 @@ loop-again c =
           ),
     )
 
--- src/refusals.rt:78:5
 accepted-requires : tie.Need-accepted-requires Inv-loop μ-loop
 accepted-requires c κs = search needs
 
--- src/refusals.rt:66:1
 returns-2 : tie.Need-returns-2 Inv-loop μ-loop
 returns-2 c =
     let a = c .before .before .before .before .args in

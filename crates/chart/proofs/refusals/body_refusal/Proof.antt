@@ -1,34 +1,25 @@
 use native.Mathlib.Omega.{arith}
+use borrow.Author.Needs.{needs}
 use denote.Ref.{now}
 use Rattle.outcome.proofs.First.{part-zero, part-refuses, part-passes}
 use Rattle.chart.proofs.Passed.{ends-passed}
-use borrow.Author.Needs.{needs}
 use Rattle.chart.proofs.refusals.body_refusal.Statement.{statement}
 use Rattle.chart.proofs.refusals.body_refusal.Tie as tie
-use Rattle.chart.proofs.refusals.body_refusal.Reads as reads
-use Rattle.chart.proofs.refusals.body_refusal.Lts as lts
-use Rattle.chart.proofs.refusals.arrow_refusal.Reads as arrow-refusal-reads
-use Rattle.chart.proofs.refusals.state_refusal.Reads as state-refusal-reads
 
--- src/refusals.rt:118:9
 arrow-refusal-requires : tie.Need-arrow-refusal-requires
 arrow-refusal-requires c κs = search needs
 
--- src/refusals.rt:120:9
 returns : tie.Need-returns
 returns c = part-refuses _ _ (c .before .before .arrow-refusal .ensures) (c .if1 .taken)
 
--- src/refusals.rt:122:9
 arrow-refusal-requires-2 : tie.Need-arrow-refusal-requires-2
 arrow-refusal-requires-2 c κs = search needs
 
--- src/refusals.rt:124:9
 returns-2 : tie.Need-returns-2
 returns-2 c =
     part-passes _ _ tt (c .before .before .before .before .before .arrow-refusal .ensures) (c .before .before .before .if1 .left)
     (part-refuses _ _ (c .before .before .arrow-refusal2 .ensures) (c .if2 .taken))
 
--- src/refusals.rt:126:5
 state-refusal-requires : tie.Need-state-refusal-requires
 state-refusal-requires c κs =
     let w = c .before .before .before .before .before .before .before in
@@ -37,7 +28,6 @@ state-refusal-requires c κs =
       λ i l. omega (arith, ends-passed (now (w .args .chart)) (w .args .n) (w .args .m) z i l .0, w .pre .few-states),
     )
 
--- src/refusals.rt:114:1
 returns-3 : tie.Need-returns-3
 returns-3 c =
     part-passes _ _ tt (c .before .before .before .before .before .before .arrow-refusal .ensures) (c .before .before .before .before .if1 .left)

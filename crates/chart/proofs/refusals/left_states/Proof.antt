@@ -1,24 +1,17 @@
-use lib.ListN.{replicate, getD-replicate, length-set}
-use Rattle.chart.proofs.Left.{left-none, left-set}
-use borrow.Author.Count.{below-none, below-more}
-use borrow.Author.Needs.{needs}
+use mathlib.Core.Path.{_≡_, refl, sym, ap, _∙_}
+use mathlib.Core.Bool.{false}
+use Prim.Native.Nat.{ℕ, _≤_, _<_, _-_}
 use native.Mathlib.Omega.{arith}
 use native.Mathlib.Numerals.{add-one}
-use mathlib.Core.Path.{_≡_, refl, sym, ap, _∙_}
-use mathlib.Core.Bool.{Bool, true, false}
-use mathlib.Core.List.{List}
-use Prim.Native.Nat.{ℕ, _≤_, _<_, _-_}
-use lib.ListN.{length, getD}
+use lib.ListN.{getD-replicate, length-set, length, getD}
 use denote.Ref.{now}
 use Rattle.chart.specs.declared.ArrowWords.{ArrowWords}
 use Rattle.chart.specs.Bytes.{arrowWords}
 use Rattle.chart.specs.Refusals.{leftBy}
+use Rattle.chart.proofs.Left.{left-none, left-set}
 use Rattle.chart.proofs.Shape.{arrow-inside}
 use Rattle.chart.proofs.refusals.left_states.Statement.{statement}
 use Rattle.chart.proofs.refusals.left_states.Tie as tie
-use Rattle.chart.proofs.refusals.left_states.Reads as reads
-use Rattle.chart.proofs.refusals.left_states.Lts as lts
-use Rattle.chart.proofs.arrow_at.Reads as arrow-at-reads
 
 abbrev Inv-loop : tie.InvT-loop
 Inv-loop chart n m left₀ i₀ left i =
@@ -27,17 +20,14 @@ Inv-loop chart n m left₀ i₀ left i =
 abbrev μ-loop : tie.MeasureT-loop
 μ-loop chart n m left₀ i₀ left i = m - i
 
--- src/refusals.rt:88:5
 loop-holds : tie.Need-loop-holds Inv-loop μ-loop
 loop-holds c =
     let s = now (c .before .args .chart) in
     (omega arith, refl, λ v l. getD-replicate 256 v false false l ∙ sym (left-none s v))
 
--- src/refusals.rt:89:13
 arrow-at-requires : tie.Need-arrow-at-requires Inv-loop μ-loop
 arrow-at-requires c κs = arrow-inside (c .before .before .before .pre .0) (c .loop-test .taken)
 
--- src/refusals.rt:91:9
 array-write-left : tie.Need-array-write-left Inv-loop μ-loop
 array-write-left c =
     let i = c .before .before .loop .i in
@@ -45,15 +35,12 @@ array-write-left c =
     ap (λ (w : ArrowWords). w .start) (c .arrow-at .ensures .0) in
     omega (arith, c .before .before .before .before .pre .1 i (c .before .loop-test .taken))
 
--- src/refusals.rt:92:9
 add-i : tie.Need-add-i Inv-loop μ-loop
 add-i c = omega arith
 
--- src/refusals.rt:88:5
 loop-less : tie.Need-loop-less Inv-loop μ-loop
 loop-less c = omega arith
 
--- src/refusals.rt:88:5
 loop-again : tie.Need-loop-again Inv-loop μ-loop
 loop-again c =
     let s = now (c .before .before .before .before .args .chart) in
@@ -66,7 +53,6 @@ loop-again c =
       rw (add-one i) (left-set s i (c .arrow-at .result .start) (c .before .before .loop .left) e (omega (arith, inv .1)) (inv .2)),
     )
 
--- src/refusals.rt:82:1
 returns : tie.Need-returns Inv-loop μ-loop
 returns c =
     let a = c .before .before .before .args in

@@ -1,22 +1,16 @@
 use borrow.Author.Tests.{lt-ltb, le-ltb, le-leb, lt-leb, eq-eqb, ne-eqb}
 use Rattle.chart.proofs.refusals.offending.Statement.{statement}
 use Rattle.chart.proofs.refusals.offending.Tie as tie
-use Rattle.chart.proofs.refusals.offending.Reads as reads
-use Rattle.chart.proofs.refusals.offending.Lts as lts
 
--- src/refusals.rt:60:9
 returns : tie.Need-returns
 returns c = simp (eq-eqb _ _ (c .before .before .if1 .taken), le-leb _ _ (c .if2 .taken))
 
--- src/refusals.rt:60:9
 returns-2 : tie.Need-returns-2
 returns-2 c = simp (eq-eqb _ _ (c .before .before .before .if1 .taken), lt-leb _ _ (c .before .if2 .left))
 
--- src/refusals.rt:56:1
 returns-3 : tie.Need-returns-3
 returns-3 c = simp (ne-eqb _ _ (c .before .before .if1 .left), lt-ltb _ _ (c .if3 .taken))
 
--- src/refusals.rt:56:1
 returns-4 : tie.Need-returns-4
 returns-4 c = simp (ne-eqb _ _ (c .before .before .before .if1 .left), le-ltb _ _ (c .before .if3 .left))
 

@@ -1,41 +1,29 @@
-use native.Mathlib.Omega.{arith}
 use Prim.Native.Nat.{_+_, _*_}
+use native.Mathlib.Omega.{arith}
 use lib.ListN.{length}
-use denote.Ref.{now}
-use Rattle.chart.specs.Bytes.{stateCount, arrowCount}
 use borrow.Author.Tests.{lt-ltb, le-ltb, eq-eqb, ne-eqb}
-use mathlib.Core.Path.{_∙_, sym}
-use Rattle.outcome.specs.Refusal.{first}
-use Rattle.chart.specs.Refusals.{chartTable}
 use borrow.Author.Needs.{needs}
+use denote.Ref.{now}
+use Rattle.outcome.specs.Refusal.{first}
+use Rattle.chart.specs.Bytes.{stateCount, arrowCount}
+use Rattle.chart.specs.Refusals.{chartTable}
 use Rattle.chart.proofs.refusals.size_refusal.Statement.{statement}
 use Rattle.chart.proofs.refusals.size_refusal.Tie as tie
-use Rattle.chart.proofs.refusals.size_refusal.Reads as reads
-use Rattle.chart.proofs.refusals.size_refusal.Lts as lts
-use Rattle.chart.proofs.arrow_count.Reads as arrow-count-reads
-use Rattle.chart.proofs.state_count.Reads as state-count-reads
-use Rattle.outcome.proofs.accepted.Reads as accepted-reads
-use Rattle.outcome.proofs.refused.Reads as refused-reads
 
--- src/refusals.rt:35:9
 state-count-requires : tie.Need-state-count-requires
 state-count-requires c κs = search needs
 
--- src/refusals.rt:37:9
 refused-requires : tie.Need-refused-requires
 refused-requires c κs = search needs
 
--- src/refusals.rt:37:9
 returns : tie.Need-returns
 unfolding first chartTable
 returns c = let s = now (c .before .before .before .before .args .chart) in
     simp (lt-ltb (stateCount s) 1 (omega arith)) (c .refused .ensures)
 
--- src/refusals.rt:40:9
 refused-requires-2 : tie.Need-refused-requires-2
 refused-requires-2 c κs = search needs
 
--- src/refusals.rt:40:9
 returns-2 : tie.Need-returns-2
 unfolding first chartTable
 returns-2 c = let s = now (c .before .before .before .before .before .args .chart) in
@@ -44,15 +32,12 @@ returns-2 c = let s = now (c .before .before .before .before .before .args .char
       lt-ltb 256 (stateCount s) (omega arith),
     ) (c .refused2 .ensures)
 
--- src/refusals.rt:42:9
 arrow-count-requires : tie.Need-arrow-count-requires
 arrow-count-requires c κs = search needs
 
--- src/refusals.rt:44:9
 refused-requires-3 : tie.Need-refused-requires-3
 refused-requires-3 c κs = search needs
 
--- src/refusals.rt:44:9
 returns-3 : tie.Need-returns-3
 unfolding first chartTable
 returns-3 c = let s = now (c .before .before .before .before .before .before .before .args .chart) in
@@ -62,11 +47,9 @@ returns-3 c = let s = now (c .before .before .before .before .before .before .be
       lt-ltb (arrowCount s) 1 (omega arith),
     ) (c .refused3 .ensures)
 
--- src/refusals.rt:47:9
 refused-requires-4 : tie.Need-refused-requires-4
 refused-requires-4 c κs = search needs
 
--- src/refusals.rt:47:9
 returns-4 : tie.Need-returns-4
 unfolding first chartTable
 returns-4 c = let s = now (c .before .before .before .before .before .before .before .before .args .chart) in
@@ -77,27 +60,21 @@ returns-4 c = let s = now (c .before .before .before .before .before .before .be
       lt-ltb 2048 (arrowCount s) (omega arith),
     ) (c .refused4 .ensures)
 
--- src/refusals.rt:49:27
 mul-if5 : tie.Need-mul-if5
 mul-if5 c = search needs
 
--- src/refusals.rt:49:23
 add-if5 : tie.Need-add-if5
 add-if5 c = search needs
 
--- src/refusals.rt:49:35
 mul-if5-2 : tie.Need-mul-if5-2
 mul-if5-2 c = search needs
 
--- src/refusals.rt:49:23
 add-if5-2 : tie.Need-add-if5-2
 add-if5-2 c = search needs
 
--- src/refusals.rt:50:9
 refused-requires-5 : tie.Need-refused-requires-5
 refused-requires-5 c κs = search needs
 
--- src/refusals.rt:50:9
 returns-5 : tie.Need-returns-5
 unfolding first chartTable
 returns-5 c = let s = now (c .before .before .before .before .before .before .before .before .before .args .chart) in
@@ -109,11 +86,9 @@ returns-5 c = let s = now (c .before .before .before .before .before .before .be
       ne-eqb (length s) (9 + 2 * stateCount s + 8 * arrowCount s) (λ e. omega arith),
     ) (c .refused5 .ensures)
 
--- src/refusals.rt:52:5
 accepted-requires : tie.Need-accepted-requires
 accepted-requires c κs = search needs
 
--- src/refusals.rt:31:1
 returns-6 : tie.Need-returns-6
 unfolding first chartTable
 returns-6 c = let s = now (c .before .before .before .before .before .before .before .before .before .args .chart) in

@@ -1,22 +1,13 @@
+use mathlib.Core.Path.{_≡_, sym, ap, _∙_}
+use mathlib.Core.Bool.{false, not}
+use Prim.Native.Nat.{ℕ, _≤_, _<_, _-_}
+use native.Mathlib.Omega.{arith}
 use borrow.Author.Count.{below-none, below-more}
 use borrow.Author.Needs.{needs}
-use native.Mathlib.Omega.{arith}
-use mathlib.Core.Path.{_≡_, sym, ap, _∙_}
-use mathlib.Core.Bool.{Bool, true, false, not}
-use Prim.Native.Nat.{ℕ, _≤_, _<_, _-_}
-use lib.ListN.{length, getD}
-use denote.Ref.{now}
-use Rattle.outcome.specs.Refusal.{first}
 use Rattle.outcome.proofs.Search.{search-found, search-ended}
-use Rattle.chart.specs.Bytes.{arrowWords}
-use Rattle.chart.specs.Refusals.{chartTable, leftBy}
+use Rattle.chart.specs.Refusals.{leftBy}
 use Rattle.chart.proofs.refusals.state_refusal.Statement.{statement}
 use Rattle.chart.proofs.refusals.state_refusal.Tie as tie
-use Rattle.chart.proofs.refusals.state_refusal.Reads as reads
-use Rattle.chart.proofs.refusals.state_refusal.Lts as lts
-use Rattle.chart.proofs.refusals.left_states.Reads as left-states-reads
-use Rattle.outcome.proofs.accepted.Reads as accepted-reads
-use Rattle.outcome.proofs.refused.Reads as refused-reads
 
 abbrev Inv-loop : tie.InvT-loop
 Inv-loop chart n m left v₀ v =
@@ -25,27 +16,21 @@ Inv-loop chart n m left v₀ v =
 abbrev μ-loop : tie.MeasureT-loop
 μ-loop chart n m left v₀ v = n - v
 
--- src/refusals.rt:102:16
 left-states-requires : tie.Need-left-states-requires Inv-loop μ-loop
 left-states-requires c κs = c .before .pre
 
--- src/refusals.rt:104:5
 loop-holds : tie.Need-loop-holds Inv-loop μ-loop
 loop-holds c = (omega arith, below-none _)
 
--- src/refusals.rt:105:13
 array-read-if1 : tie.Need-array-read-if1 Inv-loop μ-loop
 array-read-if1 c = omega (arith, c .before .before .before .before .pre .0 .few-states)
 
--- src/refusals.rt:106:40
 cast-refused : tie.Need-cast-refused Inv-loop μ-loop
 cast-refused c = omega (arith, c .before .before .before .before .before .pre .0 .few-states)
 
--- src/refusals.rt:106:13
 refused-requires : tie.Need-refused-requires Inv-loop μ-loop
 refused-requires c κs = search needs
 
--- src/refusals.rt:106:13
 returns : tie.Need-returns Inv-loop μ-loop
 returns c =
     let w = c .before .before .before .before .before .before in
@@ -55,15 +40,12 @@ returns c =
     c .refused .ensures ∙
     search-found 9 (record { inside = l; offends = ap not (sym e) ∙ c .before .if1 .taken; under = c .before .before .before .loop .inv .1 })
 
--- src/refusals.rt:108:9
 add-v : tie.Need-add-v Inv-loop μ-loop
 add-v c = omega arith
 
--- src/refusals.rt:104:5
 loop-less : tie.Need-loop-less Inv-loop μ-loop
 loop-less c = omega arith
 
--- src/refusals.rt:104:5
 loop-again : tie.Need-loop-again Inv-loop μ-loop
 loop-again c =
     let w = c .before .before .before .before .before in
@@ -71,11 +53,9 @@ loop-again c =
     let e = c .before .before .before .left-states .ensures v (omega (arith, w .pre .0 .few-states)) in
     (omega arith, below-more _ _ (c .before .before .loop .inv .1) (ap not (sym e) ∙ c .if1 .left))
 
--- src/refusals.rt:110:5
 accepted-requires : tie.Need-accepted-requires Inv-loop μ-loop
 accepted-requires c κs = search needs
 
--- src/refusals.rt:98:1
 returns-2 : tie.Need-returns-2 Inv-loop μ-loop
 returns-2 c = c .accepted .ensures ∙ search-ended 9 (λ u l. c .before .before .loop .inv .1 u (omega arith))
 

@@ -3,15 +3,12 @@ use mathlib.Core.List.{List, [], _∷_}
 use Prim.Native.Nat.{ℕ, zero, suc}
 use lib.Dec.{eqb, eqb→eq}
 use lib.ListN.{getD}
+use borrow.Author.Needs.{needs}
 use Rattle.rule.specs.Form.{formOf}
 use Rattle.rule.proofs.Table.{at}
-use borrow.Author.Needs.{needs}
 use Rattle.rule.proofs.form.form.Statement.{statement}
 use Rattle.rule.proofs.form.form.Tie as tie
-use Rattle.rule.proofs.form.form.Reads as reads
-use Rattle.rule.proofs.form.form.Lts as lts
 
--- src/form.rt:27:5
 array-read-result : tie.Need-array-read-result
 array-read-result c = search needs
 
@@ -23,7 +20,6 @@ listed (suc n) k = formOf k ∷ listed n (suc k)
 right : ℕ → ℕ → Bool
 right k x = eqb x (formOf k)
 
--- src/form.rt:24:1
 returns : tie.Need-returns
 unfolding right formOf
 returns c =

@@ -1,19 +1,14 @@
-use borrow.Author.Tests.{le-leb, lt-leb}
 use native.Mathlib.Omega.{arith}
+use borrow.Author.Tests.{le-leb, lt-leb}
+use borrow.Author.Needs.{needs}
 use Rattle.rule.specs.Form.{formOf}
 use Rattle.rule.specs.Refusals.{notLower}
-use borrow.Author.Needs.{needs}
 use Rattle.rule.proofs.refusals.is_not_lower.Statement.{statement}
 use Rattle.rule.proofs.refusals.is_not_lower.Tie as tie
-use Rattle.rule.proofs.refusals.is_not_lower.Reads as reads
-use Rattle.rule.proofs.refusals.is_not_lower.Lts as lts
-use Rattle.rule.proofs.form.form.Reads as form-reads
 
--- src/refusals.rt:78:9
 form-requires : tie.Need-form-requires
 form-requires c κs = search needs
 
--- src/refusals.rt:80:9
 returns : tie.Need-returns
 unfolding notLower
 returns c =
@@ -21,7 +16,6 @@ returns c =
     let e = c .before .form .ensures in
     simp (lt-leb 2 (formOf (w .operation)) (omega arith), lt-leb 3 (formOf (w .operation)) (omega arith))
 
--- src/refusals.rt:83:9
 returns-2 : tie.Need-returns-2
 unfolding notLower
 returns-2 c =
@@ -29,7 +23,6 @@ returns-2 c =
     let e = c .before .before .before .form .ensures in
     simp (le-leb 2 (formOf (w .operation)) (omega arith), le-leb _ _ (c .if2 .taken))
 
--- src/refusals.rt:86:9
 returns-3 : tie.Need-returns-3
 unfolding notLower
 returns-3 c =
@@ -37,7 +30,6 @@ returns-3 c =
     let e = c .before .before .before .before .form .ensures in
     simp (le-leb 2 (formOf (w .operation)) (omega arith), lt-leb _ _ (c .before .if2 .left), lt-leb 3 (formOf (w .operation)) (omega arith))
 
--- src/refusals.rt:75:1
 returns-4 : tie.Need-returns-4
 unfolding notLower
 returns-4 c =

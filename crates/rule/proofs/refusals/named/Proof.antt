@@ -1,20 +1,14 @@
 use borrow.Author.Needs.{needs}
 use borrow.Author.Tests.{eq-eqb, ne-eqb, not-true, not-false}
-use native.Mathlib.Omega.{arith}
 use Rattle.rule.proofs.refusals.named.Statement.{statement}
 use Rattle.rule.proofs.refusals.named.Tie as tie
-use Rattle.rule.proofs.refusals.named.Reads as reads
-use Rattle.rule.proofs.refusals.named.Lts as lts
 
--- src/refusals.rt:96:9
 returns : tie.Need-returns
 returns c = simp (not-true (c .before .args .used) (c .if1 .taken)) (search needs)
 
--- src/refusals.rt:99:9
 returns-2 : tie.Need-returns-2
 returns-2 c = simp (not-false (c .before .before .args .used) (c .before .if1 .left), eq-eqb _ _ (c .if2 .taken)) (search needs)
 
--- src/refusals.rt:92:1
 returns-3 : tie.Need-returns-3
 returns-3 c = simp (not-false (c .before .before .args .used) (c .before .if1 .left), ne-eqb _ _ (c .if2 .left)) (search needs)
 

@@ -1,18 +1,13 @@
-use borrow.Author.Count.{below-none, below-more}
-use borrow.Author.Needs.{needs}
-use native.Mathlib.Omega.{arith}
 use mathlib.Core.Path.{_≡_, sym, _∙_}
 use mathlib.Core.Bool.{false}
 use Prim.Native.Nat.{ℕ, _≤_, _<_, _-_}
+use native.Mathlib.Omega.{arith}
+use borrow.Author.Count.{below-none, below-more}
+use borrow.Author.Needs.{needs}
 use Rattle.outcome.proofs.Search.{search-found, search-ended}
-use Rattle.rule.specs.Refusals.{offends}
+use Rattle.rule.specs.Parts.{offends}
 use Rattle.rule.proofs.refusals.node_refusal.Statement.{statement}
 use Rattle.rule.proofs.refusals.node_refusal.Tie as tie
-use Rattle.rule.proofs.refusals.node_refusal.Reads as reads
-use Rattle.rule.proofs.refusals.node_refusal.Lts as lts
-use Rattle.outcome.proofs.accepted.Reads as accepted-reads
-use Rattle.outcome.proofs.refused.Reads as refused-reads
-use Rattle.rule.proofs.refusals.offending.Reads as offending-reads
 
 abbrev Inv-loop : tie.InvT-loop
 Inv-loop row rule k count t₀ t = (t ≤ count) × ((v : ℕ) → v < t → offends row rule k v ≡ false)
@@ -20,23 +15,18 @@ Inv-loop row rule k count t₀ t = (t ≤ count) × ((v : ℕ) → v < t → off
 abbrev μ-loop : tie.MeasureT-loop
 μ-loop row rule k count t₀ t = count - t
 
--- src/refusals.rt:149:5
 loop-holds : tie.Need-loop-holds Inv-loop μ-loop
 loop-holds c = (omega arith, below-none _)
 
--- src/refusals.rt:150:12
 offending-requires : tie.Need-offending-requires Inv-loop μ-loop
 offending-requires c κs = (c .before .before .before .pre .0, omega (arith, c .before .before .before .pre .1))
 
--- src/refusals.rt:151:42
 cast-refused : tie.Need-cast-refused Inv-loop μ-loop
 cast-refused c = omega (arith, c .before .before .before .before .before .pre .0 .few-nodes, c .before .before .before .before .before .pre .1)
 
--- src/refusals.rt:151:13
 refused-requires : tie.Need-refused-requires Inv-loop μ-loop
 refused-requires c κs = search needs
 
--- src/refusals.rt:151:13
 returns : tie.Need-returns Inv-loop μ-loop
 returns c =
     c .refused .ensures ∙
@@ -48,26 +38,21 @@ returns c =
     }
     )
 
--- src/refusals.rt:153:9
 add-t : tie.Need-add-t Inv-loop μ-loop
 add-t c = omega arith
 
--- src/refusals.rt:149:5
 loop-less : tie.Need-loop-less Inv-loop μ-loop
 loop-less c = omega arith
 
--- src/refusals.rt:149:5
 loop-again : tie.Need-loop-again Inv-loop μ-loop
 loop-again c = (
   omega arith,
   below-more _ _ (c .before .before .before .loop .inv .1) (sym (c .before .offending .ensures) ∙ c .if1 .left),
 )
 
--- src/refusals.rt:155:5
 accepted-requires : tie.Need-accepted-requires Inv-loop μ-loop
 accepted-requires c κs = search needs
 
--- src/refusals.rt:144:1
 returns-2 : tie.Need-returns-2 Inv-loop μ-loop
 returns-2 c =
     c .accepted .ensures ∙

@@ -1,41 +1,29 @@
-use borrow.Author.Tests.{eq-eqb, ne-eqb}
-use native.Mathlib.Omega.{arith}
-use mathlib.Core.Path.{_≡_, ap, _∙_}
+use mathlib.Core.Path.{ap, _∙_}
 use mathlib.Core.Bool.{not}
+use native.Mathlib.Omega.{arith}
 use lib.Dec.{eqb}
-use Rattle.rule.specs.Refusals.{malformed, notLower}
+use borrow.Author.Tests.{eq-eqb, ne-eqb}
 use borrow.Author.Needs.{needs}
+use Rattle.rule.specs.Refusals.{malformed, notLower}
 use Rattle.rule.proofs.refusals.offending.Statement.{statement}
 use Rattle.rule.proofs.refusals.offending.Tie as tie
-use Rattle.rule.proofs.refusals.offending.Reads as reads
-use Rattle.rule.proofs.refusals.offending.Lts as lts
-use Rattle.rule.proofs.node_at.Reads as node-at-reads
-use Rattle.rule.proofs.refusals.is_malformed.Reads as is-malformed-reads
-use Rattle.rule.proofs.refusals.is_not_lower.Reads as is-not-lower-reads
-use Rattle.rule.proofs.refusals.use_count.Reads as use-count-reads
 
--- src/refusals.rt:135:29
 node-at-requires : tie.Need-node-at-requires
 node-at-requires c κs = omega (arith, c .before .before .pre .0 .whole)
 
--- src/refusals.rt:135:9
 is-malformed-requires : tie.Need-is-malformed-requires
 is-malformed-requires c κs = search needs
 
--- src/refusals.rt:135:9
 returns : tie.Need-returns
 returns c =
     simp (eq-eqb _ _ (c .before .before .if1 .taken)) (c .is-malformed .ensures ∙ ap malformed (c .before .node-at .ensures .0))
 
--- src/refusals.rt:138:29
 node-at-requires-2 : tie.Need-node-at-requires-2
 node-at-requires-2 c κs = omega (arith, c .before .before .before .pre .0 .whole)
 
--- src/refusals.rt:138:9
 is-not-lower-requires : tie.Need-is-not-lower-requires
 is-not-lower-requires c κs = search needs
 
--- src/refusals.rt:138:9
 returns-2 : tie.Need-returns-2
 returns-2 c =
     let t = c .before .before .before .before .before .args .t in
@@ -43,11 +31,9 @@ returns-2 c =
     c .is-not-lower .ensures ∙ ap (notLower t) (c .before .node-at2 .ensures .0)
     )
 
--- src/refusals.rt:140:5
 use-count-requires : tie.Need-use-count-requires
 use-count-requires c κs = search needs
 
--- src/refusals.rt:130:1
 returns-3 : tie.Need-returns-3
 returns-3 c =
     simp (ne-eqb _ _ (c .before .before .if1 .left), ne-eqb _ _ (c .before .if2 .left)) (ap (λ n. not (eqb n 1)) (c .use-count .ensures))

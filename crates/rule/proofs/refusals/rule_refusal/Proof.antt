@@ -1,51 +1,38 @@
-use denote.Ref.{now}
 use native.Mathlib.Omega.{arith}
-use Rattle.head.proofs.Passed.{head-passed}
+use borrow.Author.Needs.{needs}
+use denote.Ref.{now}
 use Rattle.outcome.proofs.First.{part-zero, part-refuses, part-passes}
+use Rattle.head.proofs.Passed.{head-passed}
 use Rattle.rule.specs.Refusals.{ruleTable}
 use Rattle.rule.proofs.Passed.{size-passed, body-last}
-use borrow.Author.Needs.{needs}
 use Rattle.rule.proofs.refusals.rule_refusal.Statement.{statement}
 use Rattle.rule.proofs.refusals.rule_refusal.Tie as tie
-use Rattle.rule.proofs.refusals.rule_refusal.Reads as reads
-use Rattle.rule.proofs.refusals.rule_refusal.Lts as lts
-use Rattle.head.proofs.head_refusal.Reads as head-refusal-reads
-use Rattle.rule.proofs.node_count.Reads as node-count-reads
-use Rattle.rule.proofs.refusals.body_refusal.Reads as body-refusal-reads
-use Rattle.rule.proofs.refusals.size_refusal.Reads as size-refusal-reads
 
--- src/refusals.rt:178:9
 head-refusal-requires : tie.Need-head-refusal-requires
 head-refusal-requires c κs = search needs
 
--- src/refusals.rt:180:9
 returns : tie.Need-returns
 unfolding ruleTable
 returns c = part-refuses _ _ (c .before .before .head-refusal .ensures) (c .if1 .taken)
 
--- src/refusals.rt:182:9
 size-refusal-requires : tie.Need-size-refusal-requires
 size-refusal-requires c κs =
     head-passed 10 7 (now (c .before .before .before .before .args .rule)) (omega arith) (c .before .before .head-refusal .ensures) (c .if1 .left)
 
--- src/refusals.rt:184:9
 returns-2 : tie.Need-returns-2
 unfolding ruleTable
 returns-2 c =
     part-passes _ _ tt (c .before .before .before .before .before .head-refusal .ensures) (c .before .before .before .if1 .left)
     (part-refuses _ _ (c .before .before .size-refusal .ensures) (c .if2 .taken))
 
--- src/refusals.rt:186:9
 node-count-requires : tie.Need-node-count-requires
 node-count-requires c κs =
     head-passed 10 7 (now (c .before .before .before .before .before .before .before .args .rule)) (omega arith) (c .before .before .before .before .before .head-refusal .ensures) (c .before .before .before .if1 .left)
 
--- src/refusals.rt:187:5
 body-refusal-requires : tie.Need-body-refusal-requires
 body-refusal-requires c κs =
     size-passed _ (c .node-count .ensures .0) (part-zero _ (c .before .before .before .size-refusal .ensures) (c .before .if2 .left))
 
--- src/refusals.rt:175:1
 returns-3 : tie.Need-returns-3
 unfolding ruleTable
 returns-3 c =

@@ -1,70 +1,54 @@
-use borrow.Author.Tests.{lt-ltb, le-ltb, eq-eqb, ne-eqb}
-use native.Mathlib.Omega.{arith}
 use Prim.Native.Nat.{_+_, _*_}
+use native.Mathlib.Omega.{arith}
 use lib.ListN.{length}
+use borrow.Author.Tests.{lt-ltb, le-ltb, eq-eqb, ne-eqb}
+use borrow.Author.Needs.{needs}
 use denote.Ref.{now}
 use Rattle.outcome.specs.Refusal.{first}
 use Rattle.rule.specs.Bytes.{nodeCount}
 use Rattle.rule.specs.Refusals.{ruleTable}
-use borrow.Author.Needs.{needs}
 use Rattle.rule.proofs.refusals.size_refusal.Statement.{statement}
 use Rattle.rule.proofs.refusals.size_refusal.Tie as tie
-use Rattle.rule.proofs.refusals.size_refusal.Reads as reads
-use Rattle.rule.proofs.refusals.size_refusal.Lts as lts
-use Rattle.outcome.proofs.accepted.Reads as accepted-reads
-use Rattle.outcome.proofs.refused.Reads as refused-reads
-use Rattle.rule.proofs.node_count.Reads as node-count-reads
 
--- src/refusals.rt:17:9
 node-count-requires : tie.Need-node-count-requires
 node-count-requires c κs = search needs
 
--- src/refusals.rt:19:9
 refused-requires : tie.Need-refused-requires
 refused-requires c κs = search needs
 
--- src/refusals.rt:19:9
 returns : tie.Need-returns
 unfolding first ruleTable
 returns c =
     let s = now (c .before .before .before .before .args .rule) in
     simp (lt-ltb (nodeCount s) 1 (omega arith)) (c .refused .ensures)
 
--- src/refusals.rt:22:9
 refused-requires-2 : tie.Need-refused-requires-2
 refused-requires-2 c κs = search needs
 
--- src/refusals.rt:22:9
 returns-2 : tie.Need-returns-2
 unfolding first ruleTable
 returns-2 c =
     let s = now (c .before .before .before .before .before .args .rule) in
     simp (le-ltb (nodeCount s) 1 (omega arith), lt-ltb 64 (nodeCount s) (omega arith)) (c .refused2 .ensures)
 
--- src/refusals.rt:24:26
 mul-if3 : tie.Need-mul-if3
 mul-if3 c = search needs
 
--- src/refusals.rt:24:22
 add-if3 : tie.Need-add-if3
 add-if3 c = search needs
 
--- src/refusals.rt:25:9
 refused-requires-3 : tie.Need-refused-requires-3
 refused-requires-3 c κs = search needs
 
--- src/refusals.rt:25:9
 returns-3 : tie.Need-returns-3
 unfolding first ruleTable
 returns-3 c =
     let s = now (c .before .before .before .before .before .before .args .rule) in
     simp (le-ltb (nodeCount s) 1 (omega arith), le-ltb 64 (nodeCount s) (omega arith), ne-eqb (length s) (7 + 8 * nodeCount s) (λ q. omega arith)) (c .refused3 .ensures)
 
--- src/refusals.rt:27:5
 accepted-requires : tie.Need-accepted-requires
 accepted-requires c κs = search needs
 
--- src/refusals.rt:13:1
 returns-4 : tie.Need-returns-4
 unfolding first ruleTable
 returns-4 c =

@@ -1,18 +1,12 @@
-use borrow.Author.Needs.{needs}
+use mathlib.Core.Path.{_≡_, refl, ap, _∙_}
+use Prim.Native.Nat.{_*_, _-_, _≤_}
 use native.Mathlib.Omega.{arith}
 use native.Mathlib.Numerals.{add-one}
-use mathlib.Core.Path.{_≡_, refl, sym, ap, _∙_}
-use Prim.Native.Nat.{ℕ, _+_, _*_, _-_, _≤_}
+use borrow.Author.Needs.{needs}
 use denote.Ref.{now}
-use Rattle.rule.specs.Bytes.{nodeWords}
 use Rattle.rule.specs.Refusals.{usesIn, uses}
-use Rattle.rule.specs.declared.NodeWords.{NodeWords}
 use Rattle.rule.proofs.refusals.use_count.Statement.{statement}
 use Rattle.rule.proofs.refusals.use_count.Tie as tie
-use Rattle.rule.proofs.refusals.use_count.Reads as reads
-use Rattle.rule.proofs.refusals.use_count.Lts as lts
-use Rattle.rule.proofs.node_at.Reads as node-at-reads
-use Rattle.rule.proofs.refusals.uses_in.Reads as uses-in-reads
 
 abbrev Inv-loop : tie.InvT-loop
 Inv-loop rule k v count₀ t₀ count t = (t ≤ k) × (count ≤ 2 * t) × (count ≡ uses rule t v)
@@ -20,32 +14,25 @@ Inv-loop rule k v count₀ t₀ count t = (t ≤ k) × (count ≤ 2 * t) × (cou
 abbrev μ-loop : tie.MeasureT-loop
 μ-loop rule k v count₀ t₀ count t = k - t
 
--- src/refusals.rt:109:5
 loop-holds : tie.Need-loop-holds Inv-loop μ-loop
 unfolding uses
 loop-holds c = (omega arith, omega arith, refl)
 
--- src/refusals.rt:110:13
 node-at-requires : tie.Need-node-at-requires Inv-loop μ-loop
 node-at-requires c κs = omega (arith, c .before .before .before .pre .whole)
 
--- src/refusals.rt:111:18
 uses-in-requires : tie.Need-uses-in-requires Inv-loop μ-loop
 uses-in-requires c κs = search needs
 
--- src/refusals.rt:111:9
 add-count : tie.Need-add-count Inv-loop μ-loop
 add-count c = omega (arith, c .before .before .before .before .before .pre .few-nodes)
 
--- src/refusals.rt:112:9
 add-t : tie.Need-add-t Inv-loop μ-loop
 add-t c = omega arith
 
--- src/refusals.rt:109:5
 loop-less : tie.Need-loop-less Inv-loop μ-loop
 loop-less c = omega arith
 
--- src/refusals.rt:109:5
 loop-again : tie.Need-loop-again Inv-loop μ-loop
 unfolding uses
 loop-again c =
@@ -54,7 +41,6 @@ loop-again c =
     let e = c .uses-in .ensures .0 ∙ ap (usesIn (a .v)) (c .before .node-at .ensures .0) in
     (omega arith, omega (arith, c .uses-in .ensures .1), rw (add-one t) (cc (c .before .before .before .loop .inv .2)))
 
--- src/refusals.rt:103:1
 returns : tie.Need-returns Inv-loop μ-loop
 returns c =
     let a = c .before .before .before .args in

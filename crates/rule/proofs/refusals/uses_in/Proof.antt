@@ -1,34 +1,23 @@
-use native.Mathlib.Omega.{arith}
 use mathlib.Core.Path.{ap, _∙_}
-use Prim.Native.Nat.{_+_}
+use native.Mathlib.Omega.{arith}
 use lib.Dec.{leb}
-use Rattle.rule.specs.Form.{formOf}
-use Rattle.rule.specs.Refusals.{names, usesIn}
 use borrow.Author.Needs.{needs}
+use Rattle.rule.specs.Refusals.{names, usesIn}
 use Rattle.rule.proofs.refusals.uses_in.Statement.{statement}
 use Rattle.rule.proofs.refusals.uses_in.Tie as tie
-use Rattle.rule.proofs.refusals.uses_in.Reads as reads
-use Rattle.rule.proofs.refusals.uses_in.Lts as lts
-use Rattle.rule.proofs.form.form.Reads as form-reads
-use Rattle.rule.proofs.refusals.named.Reads as named-reads
 
--- src/refusals.rt:96:9
 form-requires : tie.Need-form-requires
 form-requires c κs = search needs
 
--- src/refusals.rt:97:9
 named-requires : tie.Need-named-requires
 named-requires c κs = search needs
 
--- src/refusals.rt:98:9
 named-requires-2 : tie.Need-named-requires-2
 named-requires-2 c κs = search needs
 
--- src/refusals.rt:99:5
 add-result : tie.Need-add-result
 add-result c = search needs
 
--- src/refusals.rt:93:1
 returns : tie.Need-returns
 unfolding usesIn
 returns c =

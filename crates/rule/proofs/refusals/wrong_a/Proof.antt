@@ -2,20 +2,15 @@ use borrow.Author.Tests.{eq-eqb, ne-eqb}
 use Rattle.rule.specs.Refusals.{wrongA}
 use Rattle.rule.proofs.refusals.wrong_a.Statement.{statement}
 use Rattle.rule.proofs.refusals.wrong_a.Tie as tie
-use Rattle.rule.proofs.refusals.wrong_a.Reads as reads
-use Rattle.rule.proofs.refusals.wrong_a.Lts as lts
 
--- src/refusals.rt:43:9
 returns : tie.Need-returns
 unfolding wrongA
 returns c = simp (eq-eqb _ _ (c .if1 .taken))
 
--- src/refusals.rt:39:1
 returns-2 : tie.Need-returns-2
 unfolding wrongA
 returns-2 c = simp (ne-eqb _ _ (c .before .if1 .left), eq-eqb _ _ (c .if2 .taken))
 
--- src/refusals.rt:39:1
 returns-3 : tie.Need-returns-3
 unfolding wrongA
 returns-3 c = simp (ne-eqb _ _ (c .before .if1 .left), ne-eqb _ _ (c .if2 .left))

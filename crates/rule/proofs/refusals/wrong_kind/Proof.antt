@@ -2,20 +2,15 @@ use borrow.Author.Tests.{lt-ltb, le-ltb, eq-eqb, ne-eqb}
 use Rattle.rule.specs.Refusals.{wrongKind}
 use Rattle.rule.proofs.refusals.wrong_kind.Statement.{statement}
 use Rattle.rule.proofs.refusals.wrong_kind.Tie as tie
-use Rattle.rule.proofs.refusals.wrong_kind.Reads as reads
-use Rattle.rule.proofs.refusals.wrong_kind.Lts as lts
 
--- src/refusals.rt:34:9
 returns : tie.Need-returns
 unfolding wrongKind
 returns c = simp (eq-eqb _ _ (c .before .if1 .taken), lt-ltb _ _ (c .if2 .taken))
 
--- src/refusals.rt:34:9
 returns-2 : tie.Need-returns-2
 unfolding wrongKind
 returns-2 c = simp (eq-eqb _ _ (c .before .if1 .taken), le-ltb _ _ (c .if2 .left))
 
--- src/refusals.rt:30:1
 returns-3 : tie.Need-returns-3
 unfolding wrongKind
 returns-3 c = simp (ne-eqb _ _ (c .if1 .left))

@@ -1,0 +1,29 @@
+-- What the functions that read a chart ask of its bytes, and what they promise of a word's size.
+use mathlib.Core.Path.{_≡_}
+use mathlib.Core.List.{List}
+use Prim.Native.Nat.{ℕ, _+_, _*_, _≤_, _<_}
+use lib.ListN.{length}
+use Rattle.chart.specs.Bytes.{stateCount, arrowCount, arrowPlace}
+use Rattle.chart.specs.declared.ArrowWords.{ArrowWords}
+
+-- the words of an arrow are of two bytes
+pub record Small (w : ArrowWords) : Type 0 where
+  pub start : w .start < 65536
+  pub end : w .end < 65536
+  pub fewest : w .fewest < 65536
+  pub most : w .most < 65536
+
+-- n states, and arrow i lies in the bytes
+pub record Inside (s : List ℕ) (n i : ℕ) : Type 0 where
+  pub states : n ≡ stateCount s
+  pub whole : arrowPlace s i + 8 ≤ length s
+
+-- n states and m arrows, as checks 1 to 6 leave them
+pub record Shape (s : List ℕ) (n m : ℕ) : Type 0 where
+  pub states : n ≡ stateCount s
+  pub arrows : m ≡ arrowCount s
+  pub some-states : 1 ≤ n
+  pub few-states : n ≤ 256
+  pub some-arrows : 1 ≤ m
+  pub few-arrows : m ≤ 2048
+  pub whole : length s ≡ 9 + 2 * n + 8 * m
