@@ -12,7 +12,7 @@ use Rattle.tctl.specs.Chart.{Arrow, upTo, noEnd, Within, states}
 use Rattle.tctl.specs.Accepted.{Accepted, OnZeroLoop}
 use Rattle.tctl.proofs.Tabulate.{length-tabulate, mem-tabulate, tabulate-mem}
 use Rattle.outcome.specs.Refusal.{lowest, found}
-use Rattle.outcome.proofs.First.{first-zero}
+use Rattle.outcome.proofs.First.{unmet-at}
 use Rattle.outcome.proofs.Lowest.{none-below, some-lowest}
 use Rattle.chart.specs.Bytes.{stateCount, arrowCount, labelWord, arrowWords, arrowOf, mostOf, chartOf}
 use Rattle.chart.specs.Shape.{Shape}
@@ -33,20 +33,12 @@ unfolding chartTable
 checked s e =
     let n = stateCount s in
     let m = arrowCount s in
-    let a = first-zero 1 _ _ (omega arith) e in
-    let b = first-zero 2 _ _ (omega arith) (a .1) in
-    let d = first-zero 3 _ _ (omega arith) (b .1) in
-    let f = first-zero 4 _ _ (omega arith) (d .1) in
-    let g = first-zero 5 _ _ (omega arith) (f .1) in
-    let h = first-zero 6 _ _ (omega arith) (g .1) in
-    let i = first-zero 7 _ _ (omega arith) (h .1) in
-    let j = first-zero 8 _ _ (omega arith) (i .1) in
-    let k = first-zero 9 _ _ (omega arith) (j .1) in
+    let unmet = unmet-at (chartTable s) tt e in
     record {
-      shape = shape s refl refl (f .0) (g .0) (h .0);
-      ends = named s n m (i .0);
-      slots = none-below (λ i. emptySlot (arrowWords s i)) m (j .0);
-      left = λ v l. not-false (leftBy s m v) (none-below (λ v. not (leftBy s m v)) n (k .0) v l);
+      shape = shape s refl refl (unmet 3) (unmet 4) (unmet 5);
+      ends = named s n m (unmet 6);
+      slots = none-below (λ i. emptySlot (arrowWords s i)) m (unmet 7);
+      left = λ v l. not-false (leftBy s m v) (none-below (λ v. not (leftBy s m v)) n (unmet 8) v l);
     }
 
 found-some : (o : Option ℕ) → found o ≡ true → (i : ℕ) × (o ≡ some i)

@@ -12,7 +12,7 @@ use Rattle.truth.proofs.Truth.{or-false}
 use Rattle.outcome.specs.declared.Outcome.{Outcome}
 use Rattle.outcome.specs.Refusal.{whole, lowest, first, rows}
 use Rattle.outcome.proofs.Whole.{whole-none}
-use Rattle.outcome.proofs.First.{first-zero}
+use Rattle.outcome.proofs.First.{unmet-at}
 use Rattle.outcome.proofs.Lowest.{none-below}
 use Rattle.chart.specs.Bytes.{stateCount, arrowCount, arrowWords}
 use Rattle.chart.specs.Shape.{Shape}
@@ -50,10 +50,8 @@ module _ (s : List ℕ) where
     pub size-passed : first (rows 3 3 (chartTable s)) .number ≡ 0 → Shape s n m
     unfolding chartTable
     size-passed e =
-        let a = first-zero 4 _ _ (omega arith) e in
-        let b = first-zero 5 _ _ (omega arith) (a .1) in
-        let d = first-zero 6 _ _ (omega arith) (b .1) in
-        shape (a .0) (b .0) (d .0)
+        let unmet = unmet-at (rows 3 3 (chartTable s)) tt e in
+        shape (unmet 0) (unmet 1) (unmet 2)
 
     -- rows 7 to 9 are the last three
     pub body-last : {x : Outcome} → x ≡ first (bodyRows s n m) → x ≡ first (drop 6 (chartTable s))
@@ -72,4 +70,4 @@ module _ (s : List ℕ) where
   pub ends-passed :
       (n m : ℕ) → first (arrowRow 7 s n m ∷ []) .number ≡ 0 → (i : ℕ) → i < m →
       (arrowWords s i .start < n) × (arrowWords s i .end < n)
-  ends-passed n m e = named n m (first-zero 7 _ _ (omega arith) e .0)
+  ends-passed n m e = named n m (unmet-at (arrowRow 7 s n m ∷ []) tt e 0)

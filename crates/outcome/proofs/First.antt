@@ -28,11 +28,20 @@ pub first-met : (n : ℕ) (p : Option ℕ) (i : ℕ) (rows : List Row) → p ≡
 unfolding first
 first-met n p i rows e = rw e
 
--- success: neither this row is met nor a later one
-pub first-zero : (n : ℕ) (p : Option ℕ) (rows : List Row) → 0 < n → first (refuse n p ∷ rows) .number ≡ 0 → (p ≡ none) × (first rows .number ≡ 0)
+-- the place of row i, counted from 0, if its condition is met
+abbrev pub placeAt : List Row → ℕ → Option ℕ
+placeAt [] i = none
+placeAt (refuse n p ∷ rows) zero = p
+placeAt (refuse n p ∷ rows) (suc i) = placeAt rows i
+
+-- where there is no refusal, no row's condition is met
+pub unmet-at : (rows : List Row) → Numbered rows → first rows .number ≡ 0 → (i : ℕ) → placeAt rows i ≡ none
 unfolding first
-first-zero n none rows l e = (refl, e)
-first-zero n (some i) rows l e = absurd (let z : ⊥ = omega arith in z)
+unmet-at [] h e i = refl
+unmet-at (refuse zero p ∷ rows) h e i = absurd h
+unmet-at (refuse (suc n) (some p) ∷ rows) h e i = absurd (let z : ⊥ = omega arith in z)
+unmet-at (refuse (suc n) none ∷ rows) h e zero = refl
+unmet-at (refuse (suc n) none ∷ rows) h e (suc i) = unmet-at rows h e i
 
 append-zero : (xs ys : List Row) → Numbered xs → first xs .number ≡ 0 → first (xs ++ ys) ≡ first ys
 unfolding first

@@ -7,7 +7,7 @@ use native.Mathlib.Omega.{arith}
 use lib.Dec.{leb, ltb, eqb}
 use borrow.Author.Tests.{ltb-false, leb-true, leb-false, le-leb, eqb-true, not-false}
 use Rattle.truth.proofs.Truth.{or-false}
-use Rattle.outcome.proofs.First.{first-zero}
+use Rattle.outcome.proofs.First.{unmet-at}
 use Rattle.outcome.proofs.Lowest.{none-below}
 use Rattle.rule.specs.Bytes.{nodeCount, nodeWords}
 use Rattle.rule.specs.Shape.{Shape}
@@ -27,19 +27,13 @@ pub accepted : (s : List ℕ) → ruleRefusal s .number ≡ 0 → Accepted s
 unfolding ruleTable
 accepted s e =
     let k = nodeCount s in
-    let a = first-zero 10 _ _ (omega arith) e in
-    let b = first-zero 11 _ _ (omega arith) (a .1) in
-    let d = first-zero 12 _ _ (omega arith) (b .1) in
-    let f = first-zero 13 _ _ (omega arith) (d .1) in
-    let g = first-zero 14 _ _ (omega arith) (f .1) in
-    let h = first-zero 15 _ _ (omega arith) (g .1) in
-    let i = first-zero 16 _ _ (omega arith) (h .1) in
+    let unmet = unmet-at (ruleTable s) tt e in
     record {
-      shape = shape s refl (f .0);
-      formed = none-below (λ t. malformed (nodeWords s t)) k (g .0);
-      lower = none-below (λ t. notLower t (nodeWords s t)) k (h .0);
+      shape = shape s refl (unmet 3);
+      formed = none-below (λ t. malformed (nodeWords s t)) k (unmet 4);
+      lower = none-below (λ t. notLower t (nodeWords s t)) k (unmet 5);
       once = λ v l.
-          let z = none-below (λ v. not (eqb (uses s k v) 1)) (k - 1) (i .0) v l in
+          let z = none-below (λ v. not (eqb (uses s k v) 1)) (k - 1) (unmet 6) v l in
           eqb-true (uses s k v) 1 (not-false (eqb (uses s k v) 1) z);
     }
 

@@ -12,7 +12,7 @@ use Rattle.truth.proofs.Truth.{or-false}
 use Rattle.outcome.specs.declared.Outcome.{Outcome}
 use Rattle.outcome.specs.Refusal.{whole, first, rows}
 use Rattle.outcome.proofs.Whole.{whole-none}
-use Rattle.outcome.proofs.First.{first-zero}
+use Rattle.outcome.proofs.First.{unmet-at}
 use Rattle.rule.specs.Bytes.{nodeCount}
 use Rattle.rule.specs.Shape.{Shape}
 use Rattle.rule.specs.Refusals.{ruleTable}
@@ -38,7 +38,7 @@ module _ (s : List ℕ) where
 
     pub size-passed : first (rows 3 1 (ruleTable s)) .number ≡ 0 → Shape s k
     unfolding ruleTable
-    size-passed e = shape (first-zero 13 _ _ (omega arith) e .0)
+    size-passed e = shape (unmet-at (rows 3 1 (ruleTable s)) tt e 0)
 
     -- rows 14 to 16 are the last three
     pub body-last : {x : Outcome} → x ≡ first (nodeRows s k) → x ≡ first (drop 4 (ruleTable s))

@@ -1,4 +1,3 @@
-use native.Mathlib.Omega.{arith}
 use borrow.Author.Needs.{needs}
 use denote.Ref.{now}
 use Rattle.outcome.proofs.First.{part-zero, part-refuses, part-passes}
@@ -17,7 +16,7 @@ returns c = part-refuses _ _ (c .before .before .head-refusal .ensures) (c .if1 
 
 size-refusal-requires : tie.Need-size-refusal-requires
 size-refusal-requires c κs =
-    head-passed 1 9 (now (c .before .before .before .before .args .chart)) (omega arith) (c .before .before .head-refusal .ensures) (c .if1 .left)
+    head-passed 1 9 (now (c .before .before .before .before .args .chart)) tt (c .before .before .head-refusal .ensures) (c .if1 .left)
 
 returns-2 : tie.Need-returns-2
 unfolding chartTable
@@ -28,11 +27,11 @@ returns-2 c =
 
 state-count-requires : tie.Need-state-count-requires
 state-count-requires c κs =
-    head-passed 1 9 (now (c .before .before .before .before .before .before .before .args .chart)) (omega arith) (c .before .before .before .before .before .head-refusal .ensures) (c .before .before .before .if1 .left)
+    head-passed 1 9 (now (c .before .before .before .before .before .before .before .args .chart)) tt (c .before .before .before .before .before .head-refusal .ensures) (c .before .before .before .if1 .left)
 
 arrow-count-requires : tie.Need-arrow-count-requires
 arrow-count-requires c κs =
-    head-passed 1 9 (now (c .before .before .before .before .before .before .before .before .args .chart)) (omega arith) (c .before .before .before .before .before .before .head-refusal .ensures) (c .before .before .before .before .if1 .left)
+    head-passed 1 9 (now (c .before .before .before .before .before .before .before .before .args .chart)) tt (c .before .before .before .before .before .before .head-refusal .ensures) (c .before .before .before .before .if1 .left)
 
 body-refusal-requires : tie.Need-body-refusal-requires
 body-refusal-requires c κs =

@@ -1,4 +1,3 @@
-use native.Mathlib.Omega.{arith}
 use borrow.Author.Needs.{needs}
 use denote.Ref.{now}
 use Rattle.outcome.proofs.First.{part-zero, part-refuses, part-passes}
@@ -17,7 +16,7 @@ returns c = part-refuses _ _ (c .before .before .head-refusal .ensures) (c .if1 
 
 size-refusal-requires : tie.Need-size-refusal-requires
 size-refusal-requires c κs =
-    head-passed 10 7 (now (c .before .before .before .before .args .rule)) (omega arith) (c .before .before .head-refusal .ensures) (c .if1 .left)
+    head-passed 10 7 (now (c .before .before .before .before .args .rule)) tt (c .before .before .head-refusal .ensures) (c .if1 .left)
 
 returns-2 : tie.Need-returns-2
 unfolding ruleTable
@@ -27,7 +26,7 @@ returns-2 c =
 
 node-count-requires : tie.Need-node-count-requires
 node-count-requires c κs =
-    head-passed 10 7 (now (c .before .before .before .before .before .before .before .args .rule)) (omega arith) (c .before .before .before .before .before .head-refusal .ensures) (c .before .before .before .if1 .left)
+    head-passed 10 7 (now (c .before .before .before .before .before .before .before .args .rule)) tt (c .before .before .before .before .before .head-refusal .ensures) (c .before .before .before .if1 .left)
 
 body-refusal-requires : tie.Need-body-refusal-requires
 body-refusal-requires c κs =
