@@ -2,7 +2,6 @@
 use mathlib.Core.Path.{_≡_, refl, sym, ap, subst}
 use mathlib.Core.Bool.{Bool, true, false, not, cond}
 use mathlib.Core.List.{List, List·Memᴰ}
-use mathlib.Core.Option.{Option, none, some}
 use Prim.Native.Nat.{ℕ, _≤_, _<_}
 use native.Mathlib.Omega.{arith}
 use lib.Dec.{ltb, eqb}
@@ -11,7 +10,8 @@ use Rattle.truth.proofs.Truth.{or-false}
 use Rattle.tctl.specs.Chart.{Arrow, upTo, noEnd, Within, states}
 use Rattle.tctl.specs.Accepted.{Accepted, OnZeroLoop}
 use Rattle.tctl.proofs.Tabulate.{length-tabulate, mem-tabulate, tabulate-mem}
-use Rattle.outcome.specs.Refusal.{lowest, found}
+use Rattle.outcome.specs.Refusal.{lowest}
+use Rattle.outcome.proofs.Place.{found-some}
 use Rattle.outcome.proofs.First.{unmet-at}
 use Rattle.outcome.proofs.Lowest.{none-below, some-lowest}
 use Rattle.chart.specs.Bytes.{stateCount, arrowCount, labelWord, arrowWords, arrowOf, mostOf, chartOf}
@@ -40,10 +40,6 @@ checked s e =
       slots = none-below (λ i. emptySlot (arrowWords s i)) m (unmet 7);
       left = λ v l. not-false (leftBy s m v) (none-below (λ v. not (leftBy s m v)) n (unmet 8) v l);
     }
-
-found-some : (o : Option ℕ) → found o ≡ true → (i : ℕ) × (o ≡ some i)
-found-some (some i) e = (i, refl)
-found-some none e = absurd (let z : _≡_ {A = ℕ} 0 1 = cc in let o : ⊥ = omega arith in o)
 
 -- a slot that is not empty, read as the fewest and the most minutes
 slot-within : (w : ArrowWords) → emptySlot w ≡ false → Within (w .fewest) (mostOf (w .most))

@@ -2,24 +2,16 @@
 use mathlib.Core.Path.{_≡_, refl, sym, ap, _∙_}
 use mathlib.Core.Bool.{Bool, true, false}
 use mathlib.Core.List.{List}
-use mathlib.Core.Option.{Option, none, some}
 use Prim.Native.Nat.{ℕ, suc, _<_}
 use native.Mathlib.Decide.{ℕ-discrete}
 use lib.ListN.{length, getD, set}
 use lib.Seq.{getD-set-same, getD-set-other}
 use lib.Dec.{eqb}
 use borrow.Author.Tests.{eq-eqb, ne-eqb}
-use Rattle.outcome.specs.Refusal.{orElse, found, lowest}
+use Rattle.outcome.specs.Refusal.{lowest}
+use Rattle.outcome.proofs.Place.{found-here, found-other}
 use Rattle.chart.specs.Bytes.{arrowWords}
 use Rattle.chart.specs.Refusals.{leftBy}
-
-found-here : (o : Option ℕ) (i : ℕ) → found (orElse o true i) ≡ true
-found-here (some j) i = refl
-found-here none i = refl
-
-found-other : (o : Option ℕ) (i : ℕ) → found (orElse o false i) ≡ found o
-found-other (some j) i = refl
-found-other none i = refl
 
 module _ (s : List ℕ) where
   pub left-none : (v : ℕ) → leftBy s 0 v ≡ false

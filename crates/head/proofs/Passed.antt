@@ -7,7 +7,7 @@ use lib.Dec.{ltb}
 use borrow.Author.Tests.{ltb-false}
 use Rattle.outcome.specs.declared.Outcome.{Outcome}
 use Rattle.outcome.specs.Refusal.{first}
-use Rattle.outcome.proofs.Whole.{whole-none}
+use Rattle.outcome.proofs.Place.{whole-none}
 use Rattle.outcome.proofs.First.{Numbered, unmet-at, part-zero}
 use Rattle.head.specs.Head.{headRows}
 

@@ -1,4 +1,4 @@
-pub mod Whole
+pub mod Place
 pub mod Lowest
 pub mod First
 pub mod Search

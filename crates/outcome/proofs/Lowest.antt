@@ -7,17 +7,13 @@ use Prim.Native.Nat.{ℕ, zero, suc, _+_, _-_, _<_}
 use native.Mathlib.Decide.{ℕ-discrete}
 use native.Mathlib.Omega.{arith}
 use Rattle.outcome.specs.Refusal.{orElse, lowest}
+use Rattle.outcome.proofs.Place.{none≢some, or-none}
 
 -- i is the least number below k of which p says yes
 pub record Least (p : ℕ → Bool) (k i : ℕ) : Type 0 where
   pub inside : i < k
   pub offends : p i ≡ true
   pub under : (j : ℕ) → j < i → p j ≡ false
-
-or-none : (o : Option ℕ) (b : Bool) (i : ℕ) → orElse o b i ≡ none → (o ≡ none) × (b ≡ false)
-or-none (some j) b i e = absurd (let z : _≡_ {A = ℕ} 0 1 = cc in let o : ⊥ = omega arith in o)
-or-none none true i e = absurd (let z : _≡_ {A = ℕ} 0 1 = cc in let o : ⊥ = omega arith in o)
-or-none none false i e = (refl, refl)
 
 module _ (p : ℕ → Bool) where
   pub none-below : (k : ℕ) → lowest p k ≡ none → (i : ℕ) → i < k → p i ≡ false
@@ -55,7 +51,7 @@ module _ (p : ℕ → Bool) where
 
   pub some-lowest : (k i : ℕ) → lowest p k ≡ some i → Least p k i
   unfolding lowest
-  some-lowest zero i e = absurd (let z : _≡_ {A = ℕ} 0 1 = cc in let o : ⊥ = omega arith in o)
+  some-lowest zero i e = absurd (none≢some e)
   some-lowest (suc k) i e = turn (some-lowest k i) (lowest p k) refl (p k) refl e
     where
       turn :
@@ -72,7 +68,7 @@ module _ (p : ℕ → Bool) where
       turn ih none f true g e =
           let z : k ≡ i = cc in
           record { inside = omega arith; offends = ap p (sym z) ∙ g; under = λ j l. none-below k f j (omega arith) }
-      turn ih none f false g e = absurd (let z : _≡_ {A = ℕ} 0 1 = cc in let o : ⊥ = omega arith in o)
+      turn ih none f false g e = absurd (none≢some e)
 
   pub lowest-iff : (k i : ℕ) → (lowest p k ≡ some i) ↔ Least p k i
   lowest-iff k i = (some-lowest k i, λ h. lowest-some h)

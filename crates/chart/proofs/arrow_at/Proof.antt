@@ -1,3 +1,4 @@
+-- The four words stand at the arrow's place, which n fixes.
 use borrow.Author.Needs.{needs}
 use Rattle.chart.specs.Bytes.{arrowWords}
 use Rattle.chart.proofs.arrow_at.Statement.{statement}

@@ -1,3 +1,4 @@
+-- Each return is the row whose test led there, the tests before it having failed.
 use mathlib.Core.Path.{sym, _∙_}
 use borrow.Author.Tests.{lt-ltb, le-ltb, eq-eqb, ne-eqb}
 use borrow.Author.Needs.{needs}

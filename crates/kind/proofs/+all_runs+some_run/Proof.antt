@@ -1,4 +1,5 @@
 -- The two tests meet their contracts: each return is a law of Steps, and the node number falls at each call.
+use mathlib.Core.Path.{_≡_}
 use Prim.Native.Nat.{ℕ, _<_}
 use native.Mathlib.Omega.{arith}
 use borrow.Fn.Kinds.{In}
@@ -8,7 +9,6 @@ use Rattle.tctl.specs.Kind.{allRuns, someRun}
 use Rattle.rule.specs.Bytes.{nodeCount}
 use Rattle.rule.specs.Refusals.{ruleRefusal}
 use Rattle.rule.proofs.Accepted as rule
-use mathlib.Core.Path.{_≡_}
 use Rattle.rule.proofs.node_at.Reads as node-at-reads
 use Rattle.kind.proofs.Steps.{
   Node,

@@ -1,3 +1,4 @@
+-- A refusal is handed on; past it the rule is accepted, and its last node is judged by the two tests.
 use mathlib.Core.Path.{_≡_, refl, sym, ap, _∙_}
 use Prim.Native.Nat.{_-_}
 use native.Mathlib.Omega.{arith}

@@ -1,3 +1,4 @@
+-- Each return is the place under the tests that led there; past both the row lies in the table.
 use mathlib.Core.Path.{refl, ap}
 use Prim.Native.Nat.{_+_, _*_, _≤_}
 use native.Mathlib.Omega.{arith}

@@ -1,3 +1,4 @@
+-- The part of the table that the choice names.
 use borrow.Author.Needs.{needs}
 use Rattle.rows.proofs.row.Statement.{statement}
 use Rattle.rows.proofs.row.Tie as tie

@@ -1,3 +1,4 @@
+-- The fields stand at the node's place.
 use borrow.Author.Needs.{needs}
 use Rattle.rule.specs.Bytes.{nodeWords}
 use Rattle.rule.proofs.node_at.Statement.{statement}

@@ -1,3 +1,4 @@
+-- The invariant: no arrow before i offends. So the arrow that is found is the lowest.
 use mathlib.Core.Path.{_≡_, sym, ap, _∙_}
 use mathlib.Core.Bool.{Bool, false}
 use Prim.Native.Nat.{ℕ, _≤_, _<_, _-_}

@@ -1,3 +1,4 @@
+-- Rows 7 to 9 by parts: a part that passes hands on to the next.
 use native.Mathlib.Omega.{arith}
 use borrow.Author.Needs.{needs}
 use denote.Ref.{now}

@@ -1,3 +1,4 @@
+-- The table by parts: a part that passes hands on to the next.
 use borrow.Author.Needs.{needs}
 use denote.Ref.{now}
 use Rattle.outcome.proofs.First.{part-zero, part-refuses, part-passes}

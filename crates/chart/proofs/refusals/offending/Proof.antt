@@ -1,3 +1,4 @@
+-- Each return is the value of the row's condition under the tests that led there.
 use borrow.Author.Tests.{lt-ltb, le-ltb, le-leb, lt-leb, eq-eqb, ne-eqb}
 use Rattle.chart.proofs.refusals.offending.Statement.{statement}
 use Rattle.chart.proofs.refusals.offending.Tie as tie

@@ -1,3 +1,4 @@
+-- The invariant: every state before v is left by an arrow. So the state that is found is the lowest.
 use mathlib.Core.Path.{_≡_, sym, ap, _∙_}
 use mathlib.Core.Bool.{false, not}
 use Prim.Native.Nat.{ℕ, _≤_, _<_, _-_}

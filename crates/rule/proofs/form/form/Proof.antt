@@ -1,3 +1,4 @@
+-- The table's rule: one test that antt computes over the 256 entries.
 use mathlib.Core.Bool.{Bool}
 use mathlib.Core.List.{List, [], _∷_}
 use Prim.Native.Nat.{ℕ, zero, suc}

@@ -1,3 +1,4 @@
+-- Rows 14 to 16 by parts: a part that passes hands on to the next.
 use borrow.Author.Needs.{needs}
 use Rattle.outcome.proofs.First.{part-refuses, part-passes}
 use Rattle.rule.proofs.refusals.body_refusal.Statement.{statement}

@@ -1,3 +1,4 @@
+-- Each return is the condition by its five parts, of which the tests that led there tell.
 use mathlib.Core.Path.{refl, sym, ap, _∙_}
 use mathlib.Core.Bool.{not}
 use native.Mathlib.Omega.{arith}

@@ -1,3 +1,4 @@
+-- Each return is the condition under the tests that led there.
 use native.Mathlib.Omega.{arith}
 use borrow.Author.Tests.{le-leb, lt-leb}
 use borrow.Author.Needs.{needs}

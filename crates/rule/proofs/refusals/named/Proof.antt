@@ -1,3 +1,4 @@
+-- Each return is the value under the tests that led there.
 use borrow.Author.Needs.{needs}
 use borrow.Author.Tests.{eq-eqb, ne-eqb, not-true, not-false}
 use Rattle.rule.proofs.refusals.named.Statement.{statement}

@@ -1,3 +1,4 @@
+-- The invariant: no node before t offends. So the node that is found is the lowest.
 use mathlib.Core.Path.{_≡_, sym, _∙_}
 use mathlib.Core.Bool.{false}
 use Prim.Native.Nat.{ℕ, _≤_, _<_, _-_}

@@ -1,3 +1,4 @@
+-- Each return is the condition of the row that was asked for.
 use mathlib.Core.Path.{ap, _∙_}
 use mathlib.Core.Bool.{not}
 use native.Mathlib.Omega.{arith}

@@ -1,3 +1,4 @@
+-- Each return is the row whose test led there, the tests before it having failed.
 use Prim.Native.Nat.{_+_, _*_}
 use native.Mathlib.Omega.{arith}
 use lib.ListN.{length}

@@ -1,3 +1,4 @@
+-- The invariant: the count is that of the first t nodes.
 use mathlib.Core.Path.{_≡_, refl, ap, _∙_}
 use Prim.Native.Nat.{_*_, _-_, _≤_}
 use native.Mathlib.Omega.{arith}

@@ -1,3 +1,4 @@
+-- The sum of what the two operands count.
 use mathlib.Core.Path.{ap, _∙_}
 use native.Mathlib.Omega.{arith}
 use lib.Dec.{leb}

@@ -1,3 +1,4 @@
+-- Each return is the condition under the tests that led there.
 use borrow.Author.Tests.{lt-ltb, le-ltb, eq-eqb, ne-eqb}
 use Rattle.rule.specs.Refusals.{wrongKind}
 use Rattle.rule.proofs.refusals.wrong_kind.Statement.{statement}

@@ -1,0 +1,32 @@
+-- A place that may be none: of a condition on the whole, and of a search that goes on to the next number.
+use mathlib.Core.Path.{_≡_, refl, sym}
+use mathlib.Core.Bool.{Bool, true, false, false≢true}
+use mathlib.Core.Option.{Option, none, some}
+use Prim.Native.Nat.{ℕ}
+use native.Mathlib.Omega.{arith}
+use Rattle.outcome.specs.Refusal.{whole, found, orElse}
+
+pub none≢some : {i : ℕ} → _≡_ {A = Option ℕ} none (some i) → ⊥
+none≢some e = let z : _≡_ {A = ℕ} 0 1 = cc in omega arith
+
+pub whole-none : (b : Bool) → whole b ≡ none → b ≡ false
+whole-none false e = refl
+whole-none true e = absurd (none≢some (sym e))
+
+pub found-some : (o : Option ℕ) → found o ≡ true → (i : ℕ) × (o ≡ some i)
+found-some (some i) e = (i, refl)
+found-some none e = absurd (false≢true e)
+
+-- where the next number offends, a place is found; where it does not, what was found stays
+pub found-here : (o : Option ℕ) (i : ℕ) → found (orElse o true i) ≡ true
+found-here (some j) i = refl
+found-here none i = refl
+
+pub found-other : (o : Option ℕ) (i : ℕ) → found (orElse o false i) ≡ found o
+found-other (some j) i = refl
+found-other none i = refl
+
+pub or-none : (o : Option ℕ) (b : Bool) (i : ℕ) → orElse o b i ≡ none → (o ≡ none) × (b ≡ false)
+or-none (some j) b i e = absurd (none≢some (sym e))
+or-none none true i e = absurd (none≢some (sym e))
+or-none none false i e = (refl, refl)
