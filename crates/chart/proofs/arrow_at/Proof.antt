@@ -1,6 +1,7 @@
 -- The four words stand at the arrow's place, which n fixes.
 use borrow.Author.Needs.{needs}
-use Rattle.chart.specs.Bytes.{arrowWords}
+use denote.Ref.{now}
+use Rattle.chart.proofs.Shape.{arrow-read}
 use Rattle.chart.proofs.arrow_at.Statement.{statement}
 use Rattle.chart.proofs.arrow_at.Tie as tie
 
@@ -44,10 +45,14 @@ be16-requires-4 : tie.Need-be16-requires-4
 be16-requires-4 c κs = search needs
 
 returns : tie.Need-returns
-unfolding arrowWords
 returns c =
-    let e = c .before .before .before .before .before .pre .states in
-    (cc, record { start = search needs; end = search needs; fewest = search needs; most = search needs })
+    let w = c .before .before .before .before .before in (
+      arrow-read (now (w .args .chart)) (w .args .i) (w .pre .states) (c .before .before .before .be16 .ensures .0)
+          (c .before .before .be162 .ensures .0)
+          (c .before .be163 .ensures .0)
+          (c .be164 .ensures .0),
+      record { start = search needs; end = search needs; fewest = search needs; most = search needs },
+    )
 
 pub arrow-at-spec : {M : Type 1} → statement M
 arrow-at-spec =
