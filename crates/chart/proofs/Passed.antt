@@ -1,28 +1,23 @@
 -- The table of refusals 1 to 9 by parts: what the rows that are passed tell.
 use mathlib.Core.Path.{_≡_, subst₂}
-use mathlib.Core.Bool.{false, not}
+use mathlib.Core.Bool.{not}
 use mathlib.Core.List.{List, [], _∷_}
 use mathlib.Core.Option.{none}
-use Prim.Native.Nat.{ℕ, _+_, _*_, _≤_, _<_}
+use Prim.Native.Nat.{ℕ, _+_, _*_, _<_}
 use native.Mathlib.Omega.{arith}
 use lib.ListN.{length, drop}
-use lib.Dec.{leb, ltb, eqb}
-use borrow.Author.Tests.{ltb-false, leb-false, eqb-true, not-false}
+use lib.Dec.{leb, eqb}
+use borrow.Author.Tests.{leb-false, eqb-true, not-false}
 use Rattle.truth.proofs.Truth.{or-false}
 use Rattle.outcome.specs.declared.Outcome.{Outcome}
-use Rattle.outcome.specs.Refusal.{whole, lowest, first, rows}
-use Rattle.outcome.proofs.Place.{whole-none}
+use Rattle.outcome.specs.Refusal.{whole, outside, lowest, first, rows}
+use Rattle.outcome.proofs.Place.{whole-none, inside}
 use Rattle.outcome.proofs.First.{unmet-at}
 use Rattle.outcome.proofs.Lowest.{none-below}
 use Rattle.chart.specs.Bytes.{stateCount, arrowCount, arrowWords}
 use Rattle.chart.specs.Shape.{Shape}
-use Rattle.chart.specs.Refusals.{chartTable, outside, namesNoState}
+use Rattle.chart.specs.Refusals.{chartTable, namesNoState}
 use Rattle.chart.specs.Parts.{arrowRow, bodyRows}
-
-inside : (a b x : ℕ) → outside a b x ≡ false → (a ≤ x) × (x ≤ b)
-inside a b x e =
-    let h = or-false (ltb x a) (ltb b x) e in
-    (ltb-false x a (h .0), ltb-false b x (h .1))
 
 module _ (s : List ℕ) where
   module _ {n m : ℕ} (en : n ≡ stateCount s) (em : m ≡ arrowCount s) where

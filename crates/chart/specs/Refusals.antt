@@ -5,14 +5,10 @@ use Prim.Native.Nat.{ℕ, _+_, _*_}
 use lib.ListN.{length}
 use lib.Dec.{eqb, ltb, leb}
 use Rattle.outcome.specs.declared.Outcome.{Outcome}
-use Rattle.outcome.specs.Refusal.{Row, refuse, whole, lowest, found, first}
+use Rattle.outcome.specs.Refusal.{Row, refuse, whole, outside, lowest, found, first}
 use Rattle.head.specs.Head.{version, statedLength}
 use Rattle.chart.specs.Bytes.{stateCount, arrowCount, arrowWords}
 use Rattle.chart.specs.declared.ArrowWords.{ArrowWords}
-
--- x is outside a to b
-abbrev pub outside : ℕ → ℕ → ℕ → Bool
-outside a b x = ltb x a || ltb b x
 
 -- "names a state n or above"
 abbrev pub namesNoState : ℕ → ArrowWords → Bool

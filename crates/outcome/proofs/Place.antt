@@ -1,10 +1,13 @@
--- A place that may be none: of a condition on the whole, and of a search that goes on to the next number.
+-- Conditions that are not met, and a place that may be none, of a search that goes on to the next number.
 use mathlib.Core.Path.{_≡_, refl, sym}
 use mathlib.Core.Bool.{Bool, true, false, false≢true}
 use mathlib.Core.Option.{Option, none, some}
-use Prim.Native.Nat.{ℕ}
+use Prim.Native.Nat.{ℕ, _≤_}
 use native.Mathlib.Omega.{arith}
-use Rattle.outcome.specs.Refusal.{whole, found, orElse}
+use lib.Dec.{ltb}
+use borrow.Author.Tests.{ltb-false}
+use Rattle.truth.proofs.Truth.{or-false}
+use Rattle.outcome.specs.Refusal.{whole, outside, found, orElse}
 
 pub none≢some : {i : ℕ} → _≡_ {A = Option ℕ} none (some i) → ⊥
 none≢some e = let z : _≡_ {A = ℕ} 0 1 = cc in omega arith
@@ -12,6 +15,11 @@ none≢some e = let z : _≡_ {A = ℕ} 0 1 = cc in omega arith
 pub whole-none : (b : Bool) → whole b ≡ none → b ≡ false
 whole-none false e = refl
 whole-none true e = absurd (none≢some (sym e))
+
+pub inside : (a b x : ℕ) → outside a b x ≡ false → (a ≤ x) × (x ≤ b)
+inside a b x e =
+    let h = or-false (ltb x a) (ltb b x) e in
+    (ltb-false x a (h .0), ltb-false b x (h .1))
 
 pub found-some : (o : Option ℕ) → found o ≡ true → (i : ℕ) × (o ≡ some i)
 found-some (some i) e = (i, refl)

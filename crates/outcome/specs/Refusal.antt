@@ -1,9 +1,10 @@
 -- Tables of refusals. The quoted sentences are of 01, "Refused with number and place".
-use mathlib.Core.Bool.{Bool, true, false}
+use mathlib.Core.Bool.{Bool, true, false, _||_}
 use mathlib.Core.List.{List, [], _∷_}
 use mathlib.Core.Option.{Option, none, some}
 use Prim.Native.Nat.{ℕ, zero, suc}
 use lib.ListN.{take, drop}
+use lib.Dec.{ltb}
 use Rattle.outcome.specs.declared.Outcome.{Outcome}
 
 -- "Success is number 0, place 0."
@@ -21,6 +22,10 @@ pub data Row : Type 0 where
 abbrev pub whole : Bool → Option ℕ
 whole true = some 0
 whole false = none
+
+-- x is "outside a to b"
+abbrev pub outside : ℕ → ℕ → ℕ → Bool
+outside a b x = ltb x a || ltb b x
 
 -- an offender was found
 abbrev pub found : Option ℕ → Bool

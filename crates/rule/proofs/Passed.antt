@@ -6,12 +6,12 @@ use mathlib.Core.Option.{none}
 use Prim.Native.Nat.{ℕ, _+_, _*_}
 use native.Mathlib.Omega.{arith}
 use lib.ListN.{length, drop}
-use lib.Dec.{ltb, eqb}
-use borrow.Author.Tests.{ltb-false, eqb-true, not-false}
+use lib.Dec.{eqb}
+use borrow.Author.Tests.{eqb-true, not-false}
 use Rattle.truth.proofs.Truth.{or-false}
 use Rattle.outcome.specs.declared.Outcome.{Outcome}
-use Rattle.outcome.specs.Refusal.{whole, first, rows}
-use Rattle.outcome.proofs.Place.{whole-none}
+use Rattle.outcome.specs.Refusal.{whole, outside, first, rows}
+use Rattle.outcome.proofs.Place.{whole-none, inside}
 use Rattle.outcome.proofs.First.{unmet-at}
 use Rattle.rule.specs.Bytes.{nodeCount}
 use Rattle.rule.specs.Shape.{Shape}
@@ -21,18 +21,18 @@ use Rattle.rule.specs.Parts.{nodeRows}
 module _ (s : List ℕ) where
   module _ {k : ℕ} (ek : k ≡ nodeCount s) where
     -- check 13 leaves the shape
-    pub shape : whole (ltb (nodeCount s) 1 || ltb 64 (nodeCount s) || not (eqb (length s) (7 + 8 * nodeCount s))) ≡ none → Shape s k
+    pub shape : whole (outside 1 64 (nodeCount s) || not (eqb (length s) (7 + 8 * nodeCount s))) ≡ none → Shape s k
     shape e =
         let n = nodeCount s in
         let l = 7 + 8 * n in
-        let a = whole-none (ltb n 1 || ltb 64 n || not (eqb (length s) l)) e in
-        let b = or-false (ltb n 1 || ltb 64 n) (not (eqb (length s) l)) a in
-        let d = or-false (ltb n 1) (ltb 64 n) (b .0) in
+        let a = whole-none (outside 1 64 n || not (eqb (length s) l)) e in
+        let b = or-false (outside 1 64 n) (not (eqb (length s) l)) a in
+        let d = inside 1 64 n (b .0) in
         let z = eqb-true (length s) l (not-false (eqb (length s) l) (b .1)) in
         record {
           nodes = ek;
-          some-nodes = omega (arith, ltb-false n 1 (d .0));
-          few-nodes = omega (arith, ltb-false 64 n (d .1));
+          some-nodes = omega (arith, d .0);
+          few-nodes = omega (arith, d .1);
           whole = omega arith;
         }
 

@@ -5,7 +5,7 @@ use Prim.Native.Nat.{ℕ, zero, suc, _+_, _-_, _*_}
 use lib.ListN.{length}
 use lib.Dec.{eqb, ltb, leb}
 use Rattle.outcome.specs.declared.Outcome.{Outcome}
-use Rattle.outcome.specs.Refusal.{Row, refuse, whole, lowest, first}
+use Rattle.outcome.specs.Refusal.{Row, refuse, whole, outside, lowest, first}
 use Rattle.head.specs.Head.{version, statedLength}
 use Rattle.rule.specs.Bytes.{nodeCount, nodeWords}
 use Rattle.rule.specs.Form.{formOf}
@@ -13,7 +13,7 @@ use Rattle.rule.specs.declared.NodeWords.{NodeWords}
 
 -- "Kind is 1 (at most c) or 2 (at least c) for 5 and 6, else 0."
 unfoldable pub wrongKind : ℕ → ℕ → Bool
-wrongKind form kind = cond (eqb form 4) (ltb kind 1 || ltb 2 kind) (not (eqb kind 0))
+wrongKind form kind = cond (eqb form 4) (outside 1 2 kind) (not (eqb kind 0))
 
 -- "1 label a (0 to 15)"; "Fields not used are 0"
 unfoldable pub wrongA : ℕ → ℕ → Bool
@@ -23,10 +23,15 @@ wrongA form a = cond (eqb form 0) (not (eqb a 0)) (eqb form 1 && ltb 15 a)
 unfoldable pub malformed : NodeWords → Bool
 malformed w =
     let form = formOf (w .operation) in
+    -- unknown operation
     ltb 4 form ||
+    -- wrong kind
     wrongKind form (w .kind) ||
+    -- label above 15, or a not used and not 0
     wrongA form (w .a) ||
+    -- c not used and not 0
     (ltb form 4 && not (eqb (w .c) 0)) ||
+    -- b not used and not 0
     (ltb form 3 && not (eqb (w .b) 0))
 
 -- "operand not lower than its node"
@@ -60,7 +65,7 @@ ruleTable s =
     -- rule's stated length is not the real one
     refuse 12 (whole (not (eqb (statedLength s) (length s)))) ∷
     -- k outside 1 to 64, or length not 7 + 8k
-    refuse 13 (whole (ltb k 1 || ltb 64 k || not (eqb (length s) (7 + 8 * k)))) ∷
+    refuse 13 (whole (outside 1 64 k || not (eqb (length s) (7 + 8 * k)))) ∷
     -- unknown operation, wrong kind, label above 15, unused field not 0
     refuse 14 (lowest (λ t. malformed (nodeWords s t)) k) ∷
     -- operand not lower than its node
