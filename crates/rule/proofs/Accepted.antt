@@ -75,10 +75,12 @@ module _ {s : List ℕ} (acc : Accepted s) (t : ℕ) (l : t < nodeCount s) where
   unfolding notLower
   lower-a h =
       let f = formOf (node .operation) in
-      operand-lower 2 (node .a) (or-false (leb 2 f && leb t (node .a)) _ (acc .lower t l) .0) (form-of (node .operation) .1 h)
+      operand-lower 2 (node .a) (or-false (leb 2 f && leb t (node .a)) _ (acc .lower t l) .0)
+      (form-of (node .operation) .1 h)
 
   pub lower-b : 3 ≤ node .operation → node .b < t
   unfolding notLower
   lower-b h =
       let f = formOf (node .operation) in
-      operand-lower 3 (node .b) (or-false (leb 2 f && leb t (node .a)) _ (acc .lower t l) .1) (form-of (node .operation) .2 h)
+      operand-lower 3 (node .b) (or-false (leb 2 f && leb t (node .a)) _ (acc .lower t l) .1)
+      (form-of (node .operation) .2 h)

@@ -50,10 +50,12 @@ some-run-below t =
     and 1 some-run-kinds.ps (falls 1 some-run-kinds.ps _<_ μ-some-run t) some-run.Pre
 
 abbrev all-runs-calls : ℕ → all-runs-lts.Claims
-all-runs-calls t = (node-at-reads.Asked, node-at-reads.Learnt, some-run-below t, some-run.Post, all-runs-below t, all-runs.Post)
+all-runs-calls t =
+    (node-at-reads.Asked, node-at-reads.Learnt, some-run-below t, some-run.Post, all-runs-below t, all-runs.Post)
 
 abbrev some-run-calls : ℕ → some-run-lts.Claims
-some-run-calls t = (node-at-reads.Asked, node-at-reads.Learnt, all-runs-below t, all-runs.Post, some-run-below t, some-run.Post)
+some-run-calls t =
+    (node-at-reads.Asked, node-at-reads.Learnt, all-runs-below t, all-runs.Post, some-run-below t, some-run.Post)
 
 -- what was read is node t, and a lower node may be asked of
 all-runs-node :
@@ -64,7 +66,8 @@ all-runs-node t c =
 
 all-runs-asks :
     (t : ℕ) (c : all-runs-lts.After-node-at (all-runs-calls t) (all-runs-at t) all-runs.Post) {v : ℕ} → v < c .before .before .args .t →
-    (v < t) × ((ruleRefusal (now (c .before .before .args .rule)) .number ≡ 0) × (v < nodeCount (now (c .before .before .args .rule))))
+    (v < t) ×
+    ((ruleRefusal (now (c .before .before .args .rule)) .number ≡ 0) × (v < nodeCount (now (c .before .before .args .rule))))
 all-runs-asks t c h =
     let w = c .before .before in
     (omega (arith, h, w .pre .0), (w .pre .1 .0, omega (arith, h, w .pre .1 .1)))
@@ -78,30 +81,41 @@ all-runs-returns : (t : ℕ) → all-runs-lts.Need-returns (all-runs-calls t) (a
 all-runs-returns t c = leaf-returns (all-runs-node t (c .before .before)) allRuns (c .if1 .taken)
 
 all-runs-some-run-requires : (t : ℕ) → all-runs-lts.Need-some-run-requires (all-runs-calls t) (all-runs-at t) all-runs.Post
-all-runs-some-run-requires t c κs = all-runs-asks t (c .before .before .before .before) (a-lower (all-runs-node t (c .before .before .before .before)) (omega arith))
+all-runs-some-run-requires t c κs =
+    all-runs-asks t (c .before .before .before .before)
+    (a-lower (all-runs-node t (c .before .before .before .before)) (omega arith))
 
 all-runs-returns-2 : (t : ℕ) → all-runs-lts.Need-returns-2 (all-runs-calls t) (all-runs-at t) all-runs.Post
-all-runs-returns-2 t c = not-returns (all-runs-node t (c .before .before .before .before .before)) allRuns (c .before .if2 .taken) (c .some-run .ensures)
+all-runs-returns-2 t c =
+    not-returns (all-runs-node t (c .before .before .before .before .before)) allRuns (c .before .if2 .taken)
+    (c .some-run .ensures)
 
 all-runs-returns-3 : (t : ℕ) → all-runs-lts.Need-returns-3 (all-runs-calls t) (all-runs-at t) all-runs.Post
-all-runs-returns-3 t c = until-returns (all-runs-node t (c .before .before .before .before .before .before)) allRuns (c .if3 .taken)
+all-runs-returns-3 t c =
+    until-returns (all-runs-node t (c .before .before .before .before .before .before)) allRuns (c .if3 .taken)
 
 all-runs-all-runs-requires : (t : ℕ) → all-runs-lts.Need-all-runs-requires (all-runs-calls t) (all-runs-at t) all-runs.Post
-all-runs-all-runs-requires t c κs = all-runs-asks t (c .before .before .before .before .before .before) (a-lower (all-runs-node t (c .before .before .before .before .before .before)) (omega arith))
+all-runs-all-runs-requires t c κs =
+    all-runs-asks t (c .before .before .before .before .before .before)
+    (a-lower (all-runs-node t (c .before .before .before .before .before .before)) (omega arith))
 
 all-runs-all-runs-requires-2 : (t : ℕ) → all-runs-lts.Need-all-runs-requires-2 (all-runs-calls t) (all-runs-at t) all-runs.Post
-all-runs-all-runs-requires-2 t c κs = all-runs-asks t (c .before .before .before .before .before .before .before .before) (b-lower (all-runs-node t (c .before .before .before .before .before .before .before .before)) (omega arith))
+all-runs-all-runs-requires-2 t c κs =
+    all-runs-asks t (c .before .before .before .before .before .before .before .before)
+    (b-lower (all-runs-node t (c .before .before .before .before .before .before .before .before)) (omega arith))
 
 all-runs-returns-4 : (t : ℕ) → all-runs-lts.Need-returns-4 (all-runs-calls t) (all-runs-at t) all-runs.Post
 all-runs-returns-4 t c =
-    right-returns (all-runs-node t (c .before .before .before .before .before .before .before .before .before)) allRuns (omega arith) (c .before .before .before .if3 .left)
+    right-returns (all-runs-node t (c .before .before .before .before .before .before .before .before .before)) allRuns
+    (omega arith) (c .before .before .before .if3 .left)
     (c .before .before .all-runs .ensures)
     (c .before .if4 .taken)
     (c .all-runs2 .ensures)
 
 all-runs-returns-5 : (t : ℕ) → all-runs-lts.Need-returns-5 (all-runs-calls t) (all-runs-at t) all-runs.Post
 all-runs-returns-5 t c =
-    left-returns (all-runs-node t (c .before .before .before .before .before .before .before .before)) allRuns (omega arith) (c .before .before .if3 .left) (c .before .all-runs .ensures) (c .if4 .left)
+    left-returns (all-runs-node t (c .before .before .before .before .before .before .before .before)) allRuns
+    (omega arith) (c .before .before .if3 .left) (c .before .all-runs .ensures) (c .if4 .left)
 
 -- what was read is node t, and a lower node may be asked of
 some-run-node :
@@ -112,7 +126,8 @@ some-run-node t c =
 
 some-run-asks :
     (t : ℕ) (c : some-run-lts.After-node-at (some-run-calls t) (some-run-at t) some-run.Post) {v : ℕ} → v < c .before .before .args .t →
-    (v < t) × ((ruleRefusal (now (c .before .before .args .rule)) .number ≡ 0) × (v < nodeCount (now (c .before .before .args .rule))))
+    (v < t) ×
+    ((ruleRefusal (now (c .before .before .args .rule)) .number ≡ 0) × (v < nodeCount (now (c .before .before .args .rule))))
 some-run-asks t c h =
     let w = c .before .before in
     (omega (arith, h, w .pre .0), (w .pre .1 .0, omega (arith, h, w .pre .1 .1)))
@@ -126,30 +141,41 @@ some-run-returns : (t : ℕ) → some-run-lts.Need-returns (some-run-calls t) (s
 some-run-returns t c = leaf-returns (some-run-node t (c .before .before)) someRun (c .if1 .taken)
 
 some-run-all-runs-requires : (t : ℕ) → some-run-lts.Need-all-runs-requires (some-run-calls t) (some-run-at t) some-run.Post
-some-run-all-runs-requires t c κs = some-run-asks t (c .before .before .before .before) (a-lower (some-run-node t (c .before .before .before .before)) (omega arith))
+some-run-all-runs-requires t c κs =
+    some-run-asks t (c .before .before .before .before)
+    (a-lower (some-run-node t (c .before .before .before .before)) (omega arith))
 
 some-run-returns-2 : (t : ℕ) → some-run-lts.Need-returns-2 (some-run-calls t) (some-run-at t) some-run.Post
-some-run-returns-2 t c = not-returns (some-run-node t (c .before .before .before .before .before)) someRun (c .before .if2 .taken) (c .all-runs .ensures)
+some-run-returns-2 t c =
+    not-returns (some-run-node t (c .before .before .before .before .before)) someRun (c .before .if2 .taken)
+    (c .all-runs .ensures)
 
 some-run-returns-3 : (t : ℕ) → some-run-lts.Need-returns-3 (some-run-calls t) (some-run-at t) some-run.Post
-some-run-returns-3 t c = until-returns (some-run-node t (c .before .before .before .before .before .before)) someRun (c .if3 .taken)
+some-run-returns-3 t c =
+    until-returns (some-run-node t (c .before .before .before .before .before .before)) someRun (c .if3 .taken)
 
 some-run-some-run-requires : (t : ℕ) → some-run-lts.Need-some-run-requires (some-run-calls t) (some-run-at t) some-run.Post
-some-run-some-run-requires t c κs = some-run-asks t (c .before .before .before .before .before .before) (a-lower (some-run-node t (c .before .before .before .before .before .before)) (omega arith))
+some-run-some-run-requires t c κs =
+    some-run-asks t (c .before .before .before .before .before .before)
+    (a-lower (some-run-node t (c .before .before .before .before .before .before)) (omega arith))
 
 some-run-some-run-requires-2 : (t : ℕ) → some-run-lts.Need-some-run-requires-2 (some-run-calls t) (some-run-at t) some-run.Post
-some-run-some-run-requires-2 t c κs = some-run-asks t (c .before .before .before .before .before .before .before .before) (b-lower (some-run-node t (c .before .before .before .before .before .before .before .before)) (omega arith))
+some-run-some-run-requires-2 t c κs =
+    some-run-asks t (c .before .before .before .before .before .before .before .before)
+    (b-lower (some-run-node t (c .before .before .before .before .before .before .before .before)) (omega arith))
 
 some-run-returns-4 : (t : ℕ) → some-run-lts.Need-returns-4 (some-run-calls t) (some-run-at t) some-run.Post
 some-run-returns-4 t c =
-    right-returns (some-run-node t (c .before .before .before .before .before .before .before .before .before)) someRun (omega arith) (c .before .before .before .if3 .left)
+    right-returns (some-run-node t (c .before .before .before .before .before .before .before .before .before)) someRun
+    (omega arith) (c .before .before .before .if3 .left)
     (c .before .before .some-run .ensures)
     (c .before .if4 .taken)
     (c .some-run2 .ensures)
 
 some-run-returns-5 : (t : ℕ) → some-run-lts.Need-returns-5 (some-run-calls t) (some-run-at t) some-run.Post
 some-run-returns-5 t c =
-    left-returns (some-run-node t (c .before .before .before .before .before .before .before .before)) someRun (omega arith) (c .before .before .if3 .left) (c .before .some-run .ensures) (c .if4 .left)
+    left-returns (some-run-node t (c .before .before .before .before .before .before .before .before)) someRun
+    (omega arith) (c .before .before .if3 .left) (c .before .some-run .ensures) (c .if4 .left)
 
 pub +all-runs+some-run-spec : {M : Type 1} → statement M
 +all-runs+some-run-spec = close μ-all-runs μ-some-run (λ t. all-runs-lts.spec (all-runs-calls t)

@@ -26,7 +26,8 @@ rule-refusal-requires c κs = search needs
 
 returns : tie.Need-returns
 returns c =
-    refused (now (c .before .before .before .before .args .rule)) (c .before .before .rule-refusal .ensures) (c .if1 .taken) refl
+    refused (now (c .before .before .before .before .args .rule)) (c .before .before .rule-refusal .ensures)
+    (c .if1 .taken) refl
 
 node-count-requires : tie.Need-node-count-requires
 node-count-requires c κs = let h = shape c in omega (arith, h .whole, h .some-nodes)
@@ -47,7 +48,8 @@ returns-2 : tie.Need-returns-2
 returns-2 c =
     let s = now (c .before .before .before .before .before .before .before .before .args .rule) in
     let e = ap (λ k. formulaAt s (k - 1)) (c .before .before .before .node-count .ensures .0) in
-    answered s (c .before .before .before .before .before .before .rule-refusal .ensures) (c .before .before .before .before .if1 .left)
+    answered s (c .before .before .before .before .before .before .rule-refusal .ensures)
+    (c .before .before .before .before .if1 .left)
     (c .before .before .all-runs .ensures ∙ ap (isOf allRuns) e)
     (c .before .some-run .ensures ∙ ap (isOf someRun) e)
     (c .kind-for .ensures)

@@ -14,7 +14,8 @@ use Rattle.rows.proofs.part.Tie as tie
 -- past the two tests the row lies in the table
 within :
     (c : tie.Else2) →
-    c .before .before .args .t * c .before .before .args .n + c .before .before .args .n ≤ length (now (c .before .before .args .table))
+    c .before .before .args .t * c .before .before .args .n + c .before .before .args .n ≤ length
+    (now (c .before .before .args .table))
 within c = inside _ _ _ (c .before .if1 .left) (c .if2 .left)
 
 sub-result : tie.Need-sub-result

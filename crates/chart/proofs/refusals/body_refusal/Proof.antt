@@ -18,7 +18,8 @@ arrow-refusal-requires-2 c κs = search needs
 
 returns-2 : tie.Need-returns-2
 returns-2 c =
-    part-passes _ _ tt (c .before .before .before .before .before .arrow-refusal .ensures) (c .before .before .before .if1 .left)
+    part-passes _ _ tt (c .before .before .before .before .before .arrow-refusal .ensures)
+    (c .before .before .before .if1 .left)
     (part-refuses _ _ (c .before .before .arrow-refusal2 .ensures) (c .if2 .taken))
 
 state-refusal-requires : tie.Need-state-refusal-requires
@@ -31,7 +32,8 @@ state-refusal-requires c κs =
 
 returns-3 : tie.Need-returns-3
 returns-3 c =
-    part-passes _ _ tt (c .before .before .before .before .before .before .arrow-refusal .ensures) (c .before .before .before .before .if1 .left)
+    part-passes _ _ tt (c .before .before .before .before .before .before .arrow-refusal .ensures)
+    (c .before .before .before .before .if1 .left)
     (part-passes _ _ tt (c .before .before .before .arrow-refusal2 .ensures) (c .before .if2 .left) (c .state-refusal .ensures))
 
 pub body-refusal-spec : {M : Type 1} → statement M

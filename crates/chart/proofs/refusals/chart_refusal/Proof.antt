@@ -1,5 +1,7 @@
 -- The table by parts: a part that passes hands on to the next.
 use borrow.Author.Needs.{needs}
+use Prim.Native.Nat.{_≤_}
+use lib.ListN.{length}
 use denote.Ref.{now}
 use Rattle.outcome.proofs.First.{part-zero, part-refuses, part-passes}
 use Rattle.head.proofs.Passed.{head-passed}
@@ -7,6 +9,12 @@ use Rattle.chart.specs.Refusals.{chartTable}
 use Rattle.chart.proofs.Passed.{size-passed, body-last}
 use Rattle.chart.proofs.refusals.chart_refusal.Statement.{statement}
 use Rattle.chart.proofs.refusals.chart_refusal.Tie as tie
+
+-- past the first test there are 9 bytes
+long : (c : tie.Else1) → 9 ≤ length (now (c .before .before .before .before .args .chart))
+long c =
+    head-passed 1 9 (now (c .before .before .before .before .args .chart)) tt (c .before .before .head-refusal .ensures)
+    (c .if1 .left)
 
 head-refusal-requires : tie.Need-head-refusal-requires
 head-refusal-requires c κs = search needs
@@ -16,8 +24,7 @@ unfolding chartTable
 returns c = part-refuses _ _ (c .before .before .head-refusal .ensures) (c .if1 .taken)
 
 size-refusal-requires : tie.Need-size-refusal-requires
-size-refusal-requires c κs =
-    head-passed 1 9 (now (c .before .before .before .before .args .chart)) tt (c .before .before .head-refusal .ensures) (c .if1 .left)
+size-refusal-requires c κs = long c
 
 returns-2 : tie.Need-returns-2
 unfolding chartTable
@@ -27,12 +34,10 @@ returns-2 c =
     (part-refuses _ _ (c .before .before .size-refusal .ensures) (c .if2 .taken))
 
 state-count-requires : tie.Need-state-count-requires
-state-count-requires c κs =
-    head-passed 1 9 (now (c .before .before .before .before .before .before .before .args .chart)) tt (c .before .before .before .before .before .head-refusal .ensures) (c .before .before .before .if1 .left)
+state-count-requires c κs = long (c .before .before .before)
 
 arrow-count-requires : tie.Need-arrow-count-requires
-arrow-count-requires c κs =
-    head-passed 1 9 (now (c .before .before .before .before .before .before .before .before .args .chart)) tt (c .before .before .before .before .before .before .head-refusal .ensures) (c .before .before .before .before .if1 .left)
+arrow-count-requires c κs = long (c .before .before .before .before)
 
 body-refusal-requires : tie.Need-body-refusal-requires
 body-refusal-requires c κs =

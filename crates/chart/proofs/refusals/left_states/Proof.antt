@@ -51,7 +51,8 @@ loop-again c =
     let l = c .before .before .before .before .pre .1 i (c .before .loop-test .taken) in (
       omega arith,
       simp length-set (inv .1),
-      rw (add-one i) (left-set s i (c .arrow-at .result .start) (c .before .before .loop .left) e (omega (arith, inv .1)) (inv .2)),
+      rw (add-one i)
+          (left-set s i (c .arrow-at .result .start) (c .before .before .loop .left) e (omega (arith, inv .1)) (inv .2)),
     )
 
 returns : tie.Need-returns Inv-loop μ-loop

@@ -15,7 +15,8 @@ node-refusal-requires-2 c κs = search needs
 
 returns-2 : tie.Need-returns-2
 returns-2 c =
-    part-passes _ _ tt (c .before .before .before .before .before .node-refusal .ensures) (c .before .before .before .if1 .left)
+    part-passes _ _ tt (c .before .before .before .before .before .node-refusal .ensures)
+    (c .before .before .before .if1 .left)
     (part-refuses _ _ (c .before .before .node-refusal2 .ensures) (c .if2 .taken))
 
 sub-node-refusal : tie.Need-sub-node-refusal
@@ -26,7 +27,8 @@ node-refusal-requires-3 c κs = search needs
 
 returns-3 : tie.Need-returns-3
 returns-3 c =
-    part-passes _ _ tt (c .before .before .before .before .before .before .node-refusal .ensures) (c .before .before .before .before .if1 .left)
+    part-passes _ _ tt (c .before .before .before .before .before .before .node-refusal .ensures)
+    (c .before .before .before .before .if1 .left)
     (part-passes _ _ tt (c .before .before .before .node-refusal2 .ensures) (c .before .if2 .left) (c .node-refusal3 .ensures))
 
 pub body-refusal-spec : {M : Type 1} → statement M

@@ -29,14 +29,16 @@ unfolding notLower
 returns-3 c =
     let w = c .before .before .before .before .before .args .w in
     let e = c .before .before .before .before .form .ensures in
-    simp (le-leb 2 (formOf (w .operation)) (omega arith), lt-leb _ _ (c .before .if2 .left), lt-leb 3 (formOf (w .operation)) (omega arith))
+    simp
+    (le-leb 2 (formOf (w .operation)) (omega arith), lt-leb _ _ (c .before .if2 .left), lt-leb 3 (formOf (w .operation)) (omega arith))
 
 returns-4 : tie.Need-returns-4
 unfolding notLower
 returns-4 c =
     let w = c .before .before .before .before .before .before .args .w in
     let e = c .before .before .before .before .before .form .ensures in
-    simp (le-leb 2 (formOf (w .operation)) (omega arith), lt-leb _ _ (c .before .before .if2 .left), le-leb 3 (formOf (w .operation)) (omega arith))
+    simp
+    (le-leb 2 (formOf (w .operation)) (omega arith), lt-leb _ _ (c .before .before .if2 .left), le-leb 3 (formOf (w .operation)) (omega arith))
 
 pub is-not-lower-spec : {M : Type 1} → statement M
 is-not-lower-spec = tie.close (tie.spec form-requires returns returns-2 returns-3 returns-4)

@@ -23,7 +23,9 @@ offending-requires : tie.Need-offending-requires Inv-loop μ-loop
 offending-requires c κs = (c .before .before .before .pre .0, omega (arith, c .before .before .before .pre .1))
 
 cast-refused : tie.Need-cast-refused Inv-loop μ-loop
-cast-refused c = omega (arith, c .before .before .before .before .before .pre .0 .few-nodes, c .before .before .before .before .before .pre .1)
+cast-refused c =
+    omega
+    (arith, c .before .before .before .before .before .pre .0 .few-nodes, c .before .before .before .before .before .pre .1)
 
 refused-requires : tie.Need-refused-requires Inv-loop μ-loop
 refused-requires c κs = search needs

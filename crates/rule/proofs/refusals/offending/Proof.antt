@@ -17,7 +17,8 @@ is-malformed-requires c κs = search needs
 
 returns : tie.Need-returns
 returns c =
-    simp (eq-eqb _ _ (c .before .before .if1 .taken)) (c .is-malformed .ensures ∙ ap malformed (c .before .node-at .ensures .0))
+    simp (eq-eqb _ _ (c .before .before .if1 .taken))
+    (c .is-malformed .ensures ∙ ap malformed (c .before .node-at .ensures .0))
 
 node-at-requires-2 : tie.Need-node-at-requires-2
 node-at-requires-2 c κs = omega (arith, c .before .before .before .pre .0 .whole)

@@ -54,7 +54,9 @@ returns-4 : tie.Need-returns-4
 unfolding first ruleTable
 returns-4 c =
     let s = now (c .before .before .before .before .before .before .args .rule) in
-    simp (le-ltb (nodeCount s) 1 (omega arith), le-ltb 64 (nodeCount s) (omega arith), eq-eqb (length s) (7 + 8 * nodeCount s) (omega arith)) (c .accepted .ensures)
+    simp
+    (le-ltb (nodeCount s) 1 (omega arith), le-ltb 64 (nodeCount s) (omega arith), eq-eqb (length s) (7 + 8 * nodeCount s) (omega arith))
+    (c .accepted .ensures)
 
 pub size-refusal-spec : {M : Type 1} → statement M
 size-refusal-spec =
