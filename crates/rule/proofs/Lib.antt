@@ -1,4 +1,5 @@
 pub mod Table
+pub mod Node
 pub mod Malformed
 pub mod Passed
 pub mod Accepted

@@ -1,6 +1,7 @@
 -- The fields stand at the node's place.
 use borrow.Author.Needs.{needs}
-use Rattle.rule.specs.Bytes.{nodeWords}
+use denote.Ref.{now}
+use Rattle.rule.proofs.Node.{node-read}
 use Rattle.rule.proofs.node_at.Statement.{statement}
 use Rattle.rule.proofs.node_at.Tie as tie
 
@@ -44,8 +45,11 @@ be16-requires-3 : tie.Need-be16-requires-3
 be16-requires-3 c κs = search needs
 
 returns : tie.Need-returns
-unfolding nodeWords
-returns c = (cc, record { a = search needs; b = search needs; c = search needs })
+returns c =
+    let a = c .before .before .before .before .before .before .args in (
+      node-read (now (a .rule)) (a .t) (c .before .before .be16 .ensures .0) (c .before .be162 .ensures .0) (c .be163 .ensures .0),
+      record { a = search needs; b = search needs; c = search needs },
+    )
 
 pub node-at-spec : {M : Type 1} → statement M
 node-at-spec =

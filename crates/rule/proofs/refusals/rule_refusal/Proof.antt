@@ -1,7 +1,7 @@
 -- The table by parts: a part that passes hands on to the next.
-use borrow.Author.Needs.{needs}
 use Prim.Native.Nat.{_≤_}
 use lib.ListN.{length}
+use borrow.Author.Needs.{needs}
 use denote.Ref.{now}
 use Rattle.outcome.proofs.First.{part-zero, part-refuses, part-passes}
 use Rattle.head.proofs.Passed.{head-passed}
