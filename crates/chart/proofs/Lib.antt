@@ -1,4 +1,4 @@
-pub mod Shape
+pub mod Arrow
 pub mod Left
 pub mod Passed
 pub mod Accepted

@@ -1,7 +1,8 @@
 -- The thirteen items are right about the meaning: one test that antt computes over the list, and one theorem that turns
 -- it into Holds for every listed 1 and its refutation for every listed 0.
-use mathlib.Core.Path.{_≡_, refl, ap}
-use mathlib.Core.Bool.{Bool, true, cond, _&&_}
+use mathlib.Core.Path.{_≡_, refl, sym, ap, subst}
+use mathlib.Core.Logic.{_⊎_, inl, inr}
+use mathlib.Core.Bool.{Bool, true, false, cond, _&&_}
 use mathlib.Core.List.{List·Memᴰ}
 use Prim.Native.Nat.{ℕ, _<_}
 use native.Mathlib.Omega.{arith}
@@ -54,10 +55,16 @@ pub record Right (it : Item) : Type 0 where
   pub chart : Accepted (chartOf (it .chart))
   pub rule : ruleRefusal (it .rule) .number ≡ 0
   pub each : length (it .marks) ≡ states (chartOf (it .chart))
+  pub digit :
+      (s : ℕ) → s < states (chartOf (it .chart)) → (getD (it .marks) s 0 ≡ 1) ⊎ (getD (it .marks) s 0 ≡ 0)
   pub marked :
       (s : ℕ) → s < states (chartOf (it .chart)) → getD (it .marks) s 0 ≡ 1 → Holds (chartOf (it .chart)) (formulaOf (it .rule)) s
   pub unmarked :
       (s : ℕ) → s < states (chartOf (it .chart)) → getD (it .marks) s 0 ≡ 0 → Holds (chartOf (it .chart)) (formulaOf (it .rule)) s → ⊥
+
+one-or-zero : (b : Bool) → (_≡_ {A = ℕ} (cond b 1 0) 1) ⊎ (_≡_ {A = ℕ} (cond b 1 0) 0)
+one-or-zero true = inl refl
+one-or-zero false = inr refl
 
 right : (it : Item) → passes it ≡ true → Right it
 unfolding passes
@@ -77,6 +84,7 @@ right it ok =
       chart = acc;
       rule = eqb-true _ _ (d .1);
       each = eqb-true _ _ (b .1);
+      digit = λ s l. subst (λ v. (v ≡ 1) ⊎ (v ≡ 0)) (sym (is s l)) (one-or-zero (holds G f s));
       marked = λ s l m. holds-iff G acc f s l .0 (one-true (holds G f s) (omega (arith, is s l)));
       unmarked = λ s l m h.
           omega (arith, is s l, ap {B = ℕ} (λ b. cond b 1 0) (holds-iff G acc f s l .1 h));

@@ -1,4 +1,3 @@
-pub mod Table
 pub mod Node
 pub mod Malformed
 pub mod Passed

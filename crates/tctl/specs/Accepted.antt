@@ -1,4 +1,4 @@
--- What the checks of a chart ask of its meaning. The quoted conditions are rows 7, 8, 9 and 19 of 01's table.
+-- What the checks of a chart leave of its meaning. The quoted conditions are of rows 7, 8, 9 and 19 of 01's table.
 use mathlib.Core.Path.{_≡_}
 use mathlib.Core.List.{List·Memᴰ}
 use Prim.Native.Nat.{ℕ, _<_}
@@ -13,12 +13,12 @@ pub data Instant (G : Chart) (t : ℕ) : ℕ → Type 0 where
 abbrev pub OnZeroLoop : Chart → ℕ → Type 0
 OnZeroLoop G s = Instant G s s
 
--- none of the four conditions is met
+-- none of these conditions is met
 pub record Accepted (G : Chart) : Type 0 where
   -- 7: "arrow names a state n or above"
   pub starts : (a : Arrow) → List·Memᴰ a (G .arrows) → a .start < states G
   pub ends : (a : Arrow) → List·Memᴰ a (G .arrows) → a .end < states G
-  -- 8: "fewest above most, or fewest 65,535": no slot is empty
+  -- 8: "fewest above most", so that no slot is empty; "or fewest 65,535" is a limit of the bytes, and no more is asked here
   pub slots : (a : Arrow) → List·Memᴰ a (G .arrows) → Within (a .fewest) (a .most)
   -- 9: "state without an outgoing arrow"
   pub leaves : (s : ℕ) → s < states G → (a : Arrow) × List·Memᴰ a (G .arrows) × (a .start ≡ s)

@@ -1,7 +1,7 @@
 -- The four words stand at the arrow's place, which n fixes.
 use borrow.Author.Needs.{needs}
 use denote.Ref.{now}
-use Rattle.chart.proofs.Shape.{arrow-read}
+use Rattle.chart.proofs.Arrow.{arrow-read}
 use Rattle.chart.proofs.arrow_at.Statement.{statement}
 use Rattle.chart.proofs.arrow_at.Tie as tie
 

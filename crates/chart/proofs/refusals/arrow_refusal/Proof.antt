@@ -9,7 +9,7 @@ use Rattle.outcome.proofs.Search.{search-found, search-ended}
 use Rattle.chart.specs.declared.ArrowWords.{ArrowWords}
 use Rattle.chart.specs.Bytes.{arrowWords}
 use Rattle.chart.specs.Parts.{offends}
-use Rattle.chart.proofs.Shape.{arrow-inside}
+use Rattle.chart.proofs.Arrow.{arrow-inside}
 use Rattle.chart.proofs.refusals.arrow_refusal.Statement.{statement}
 use Rattle.chart.proofs.refusals.arrow_refusal.Tie as tie
 

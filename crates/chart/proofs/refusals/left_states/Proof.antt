@@ -10,7 +10,7 @@ use Rattle.chart.specs.declared.ArrowWords.{ArrowWords}
 use Rattle.chart.specs.Bytes.{arrowWords}
 use Rattle.chart.specs.Refusals.{leftBy}
 use Rattle.chart.proofs.Left.{left-none, left-set}
-use Rattle.chart.proofs.Shape.{arrow-inside}
+use Rattle.chart.proofs.Arrow.{arrow-inside}
 use Rattle.chart.proofs.refusals.left_states.Statement.{statement}
 use Rattle.chart.proofs.refusals.left_states.Tie as tie
 

@@ -1,4 +1,4 @@
--- The shape of a chart that passes checks 1 to 6.
+-- Reading an arrow.
 use mathlib.Core.Path.{_≡_}
 use mathlib.Core.List.{List}
 use Prim.Native.Nat.{ℕ, _+_, _*_, _<_}
@@ -8,7 +8,7 @@ use Rattle.chart.specs.declared.ArrowWords.{ArrowWords}
 use Rattle.chart.specs.Bytes.{stateCount, arrowWords}
 use Rattle.chart.specs.Shape.{Shape, Inside}
 
--- each arrow lies in the bytes
+-- in the shape that checks 1 to 6 leave, each arrow lies in the bytes
 pub arrow-inside : {s : List ℕ} {n m i : ℕ} → Shape s n m → i < m → Inside s n i
 arrow-inside h l = record { states = h .states; whole = omega (arith, h .states, h .whole) }
 
