@@ -9,16 +9,16 @@ use borrow.Author.Tests.{ltb-false, eqb-true, not-false}
 use Rattle.truth.proofs.Truth.{or-false}
 use Rattle.tctl.specs.Chart.{Arrow, upTo, noEnd, Within, states}
 use Rattle.tctl.specs.Accepted.{Accepted, OnZeroLoop}
-use Rattle.tctl.proofs.Tabulate.{length-tabulate, mem-tabulate, tabulate-mem}
 use Rattle.outcome.specs.Refusal.{lowest}
 use Rattle.outcome.proofs.Place.{found-some}
 use Rattle.outcome.proofs.First.{unmet-at}
 use Rattle.outcome.proofs.Lowest.{none-below, some-lowest}
-use Rattle.chart.specs.Bytes.{stateCount, arrowCount, labelWord, arrowWords, arrowOf, mostOf, chartOf}
+use Rattle.chart.specs.Bytes.{stateCount, arrowCount, arrowWords, arrowOf, mostOf, chartOf}
 use Rattle.chart.specs.Shape.{Shape}
 use Rattle.chart.specs.Refusals.{chartTable, chartRefusal, leftBy, emptySlot}
 use Rattle.chart.specs.declared.ArrowWords.{ArrowWords}
 use Rattle.chart.proofs.Passed.{shape, named}
+use Rattle.chart.proofs.Chart.{states-of, arrow-mem, arrow-of}
 
 -- none of the rows' conditions is met
 pub record Checked (s : List ℕ) : Type 0 where
@@ -53,36 +53,27 @@ slot-within w e = turn (eqb (w .most) 65535)
     turn false = fits
 
 module _ (s : List ℕ) (ok : Checked s) where
-  states-of : states (chartOf s) ≡ stateCount s
-  unfolding chartOf
-  states-of = length-tabulate (stateCount s) (labelWord s)
-
-  -- an arrow of the chart is one of the arrows of the bytes
-  arrow-of : (a : Arrow) → List·Memᴰ a (chartOf s .arrows) → (i : ℕ) × (i < arrowCount s) × (a ≡ arrowOf (arrowWords s i))
-  unfolding chartOf
-  arrow-of a m = tabulate-mem (arrowCount s) (λ i. arrowOf (arrowWords s i)) m
-
   pub chart-named : (a : Arrow) → List·Memᴰ a (chartOf s .arrows) → (a .start < states (chartOf s)) × (a .end < states (chartOf s))
   chart-named a m =
-      let x = arrow-of a m in
+      let x = arrow-of s a m in
       let y = ok .ends (x .0) (x .1) in
       let e = ap (λ (b : Arrow). b .start) (x .2) in
       let f = ap (λ (b : Arrow). b .end) (x .2) in
-      (omega (arith, y .0, states-of), omega (arith, y .1, states-of))
+      (omega (arith, y .0, states-of s), omega (arith, y .1, states-of s))
 
-  chart-slots : (a : Arrow) → List·Memᴰ a (chartOf s .arrows) → Within (a .fewest) (a .most)
+  pub chart-slots : (a : Arrow) → List·Memᴰ a (chartOf s .arrows) → Within (a .fewest) (a .most)
   chart-slots a m =
-      let x = arrow-of a m in
+      let x = arrow-of s a m in
       subst (λ b. Within (b .fewest) (b .most)) (sym (x .2)) (slot-within (arrowWords s (x .0)) (ok .slots (x .0) (x .1)))
 
   chart-left : (v : ℕ) → v < states (chartOf s) → (a : Arrow) × List·Memᴰ a (chartOf s .arrows) × (a .start ≡ v)
-  unfolding chartOf leftBy
+  unfolding leftBy
   chart-left v l =
       let p : ℕ → Bool = λ i. eqb (arrowWords s i .start) v in
-      let x = found-some (lowest p (arrowCount s)) (ok .left v (omega (arith, states-of))) in
+      let x = found-some (lowest p (arrowCount s)) (ok .left v (omega (arith, states-of s))) in
       let y = some-lowest p (arrowCount s) (x .0) (x .1) in
       let w = arrowWords s (x .0) in
-      (arrowOf w, mem-tabulate (arrowCount s) (λ i. arrowOf (arrowWords s i)) (x .0) (y .inside), eqb-true (w .start) v (y .offends))
+      (arrowOf w, arrow-mem s (x .0) (y .inside), eqb-true (w .start) v (y .offends))
 
   -- with check 19 passed too, the chart is accepted
   pub chart-accepted : ((v : ℕ) → OnZeroLoop (chartOf s) v → ⊥) → Accepted (chartOf s)

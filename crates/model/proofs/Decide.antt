@@ -1,39 +1,22 @@
 -- The row of a formula is right: an accepted chart's state has yes in it just where the formula holds.
 use mathlib.Core.Path.{_≡_, refl}
-use mathlib.Core.Logic.{_↔_, _⊎_, Iff·trans, Iff·not, Iff·and, ⊎-map}
+use mathlib.Core.Logic.{_↔_, Iff·trans, Iff·not}
 use mathlib.Core.Bool.{true, _&&_, _||_}
 use mathlib.Core.Bool.{not as neg}
 use Prim.Native.Nat.{ℕ, _<_, _/_, _%_, _^_}
 use lib.ListN.{getD}
 use lib.Dec.{eqb}
 use borrow.Author.Tests.{eqb-true, eq-eqb}
-use Rattle.truth.proofs.Truth.{not-iff, and-iff, or-iff}
+use Rattle.truth.proofs.Truth.{not-iff, both-iff, either-iff}
 use Rattle.tctl.specs.Chart.{Chart, states}
-use Rattle.tctl.specs.Run.{Run}
-use Rattle.tctl.specs.Formula.{Bound, Formula, always, label, not, and, or, someUntil, allUntil}
-use Rattle.tctl.specs.Holds.{Met, Holds}
+use Rattle.tctl.specs.Formula.{Formula, always, label, not, and, or, someUntil, allUntil}
+use Rattle.tctl.specs.Holds.{Holds}
 use Rattle.tctl.specs.Accepted.{Accepted}
-use Rattle.tctl.proofs.Drawn.{Drawn, accepted-drawn}
-use Rattle.tctl.proofs.Run.{run-below}
+use Rattle.tctl.proofs.Drawn.{accepted-drawn}
+use Rattle.tctl.proofs.Until.{met-map}
 use Rattle.model.specs.Decide.{row, holds}
 use Rattle.model.proofs.Row.{row-iff}
 use Rattle.model.proofs.Untils.{some-until, all-until}
-
--- an until of what the chart's states satisfy in other words
-met-map :
-    {G : Chart} → Drawn G → {P Q P′ Q′ : ℕ → Type 0} → ((s : ℕ) → s < states G → P s → P′ s) →
-    ((s : ℕ) → s < states G → Q s → Q′ s) →
-    {b : Bound} {s : ℕ} → s < states G → (r : Run G s) → Met G P Q b s r → Met G P′ Q′ b s r
-met-map dr f g l r m =
-    record {
-      position = m .position;
-      intime = m .intime;
-      there = g (r .state (m .position)) (run-below dr l r (m .position)) (m .there);
-      before = λ j k. f (r .state j) (run-below dr l r j) (m .before j k);
-    }
-
-⊎-iff : {A B C D : Type 0} → A ↔ C → B ↔ D → (A ⊎ B) ↔ (C ⊎ D)
-⊎-iff i j = (⊎-map (i .0) (j .0), ⊎-map (i .1) (j .1))
 
 pub holds-iff : (G : Chart) → Accepted G → (f : Formula) (s : ℕ) → s < states G → (holds G f s ≡ true) ↔ Holds G f s
 unfolding row
@@ -45,12 +28,10 @@ holds-iff G acc (not f) s l =
     let i = Iff·trans (not-iff (holds G f s)) (Iff·not (holds-iff G acc f s l)) in
     row-iff (states G) (λ s. neg (holds G f s)) s l i
 holds-iff G acc (and f g) s l =
-    let both = Iff·and (holds-iff G acc f s l) (holds-iff G acc g s l) in
-    let i = Iff·trans (and-iff (holds G f s) (holds G g s)) both in
+    let i = both-iff (holds-iff G acc f s l) (holds-iff G acc g s l) in
     row-iff (states G) (λ s. holds G f s && holds G g s) s l i
 holds-iff G acc (or f g) s l =
-    let either = ⊎-iff (holds-iff G acc f s l) (holds-iff G acc g s l) in
-    let i = Iff·trans (or-iff (holds G f s) (holds G g s)) either in
+    let i = either-iff (holds-iff G acc f s l) (holds-iff G acc g s l) in
     row-iff (states G) (λ s. holds G f s || holds G g s) s l i
 holds-iff G acc (someUntil b f g) s l =
     let dr = accepted-drawn acc in

@@ -291,13 +291,3 @@ module _ {G : Chart} (dr : Drawn G) (go : ℕ → Bool) (cap : ℕ) (some-cap : 
           let w = g .worth in
           let h = climb (λ k. table) (λ k. table-base) (λ k. table-quiet) (steps p) l w (g .some) p (omega arith) in
           omega (arith, e)
-
-  -- no arrow offers more
-  pub greatest-quiet :
-      (a : Arrow) → List·Memᴰ a (G .arrows) →
-      let t = greatest (G .arrows) (states G) cap go base in
-      Offered go cap a t t
-  greatest-quiet a m = subst (λ t. Offered go cap a t t) (sym is-table) (table-quiet a m)
-
-  pub greatest-base : (s : ℕ) → s < states G → base s ≤ num (greatest (G .arrows) (states G) cap go base) s
-  greatest-base s l = omega (arith, table-base s l, ap (λ t. num t s) is-table)

@@ -1,95 +1,88 @@
--- A chart that passes the test `timed` has no loop of arrows whose fewest are all 0.
+-- The decision `onZeroLoop` is right: it says yes just of the states on a loop of arrows whose fewest are all 0.
 use mathlib.Core.Path.{_≡_, refl, sym, subst, ap, _∙_}
-use mathlib.Core.Logic.{_⊎_, inl, inr, ⊎-elim}
+use mathlib.Core.Logic.{_↔_, _⊎_, inl, inr, ⊎-map, Iff·trans}
 use mathlib.Core.List.{List, [], _∷_}
 use mathlib.Core.List.{List·Memᴰ, List·Memᴰ·head, List·Memᴰ·tail, List·Memᴰ·cases-cons, List·Memᴰ·not-nil}
-use mathlib.Core.Bool.{Bool, true, false, cond}
-use Prim.Native.Nat.{ℕ, suc, _≤_, _<_}
-use native.Mathlib.Omega.{arith}
-use lib.Dec.{leb, eqb}
-use borrow.Author.Tests.{leb-true, eq-eqb}
-use Rattle.truth.proofs.Truth.{cond-elim}
-use Rattle.tctl.specs.Tabulate.{tabulate}
-use Rattle.tctl.specs.Chart.{Chart, Arrow, upTo, states}
+use mathlib.Core.Bool.{true, false≢true}
+use Prim.Native.Nat.{ℕ}
+use lib.Dec.{eqb}
+use borrow.Author.Tests.{eqb-true, eq-eqb}
+use Rattle.truth.proofs.Truth.{both-iff, either-iff}
+use Rattle.tctl.specs.Chart.{Chart, Arrow}
 use Rattle.tctl.specs.Accepted.{Instant, last, next, OnZeroLoop}
-use Rattle.tctl.proofs.Tabulate.{mem-tabulate}
-use Rattle.tctl.proofs.Drawn.{Drawn}
-use Rattle.model.specs.Engine.{num, greatest, weigh}
-use Rattle.model.specs.ZeroLoop.{instants, timed}
-use Rattle.model.proofs.Every.{every-true}
-use Rattle.model.proofs.Weigh.{Weighed, weighed-drawn}
-use Rattle.model.proofs.Greatest.{greatest-quiet, greatest-base}
+use Rattle.model.specs.ZeroLoop.{leads, onZeroLoop}
 
--- ── The arrows with fewest 0 ──
+eqb-iff : (m n : ℕ) → (eqb m n ≡ true) ↔ (m ≡ n)
+eqb-iff m n = (eqb-true m n, eq-eqb m n)
 
-mem-instants :
-    (l : List Arrow) {a : Arrow} → List·Memᴰ a l → a .fewest ≡ 0 → List·Memᴰ (weigh (upTo 1) a) (instants l)
-unfolding instants
-mem-instants [] m z = absurd (List·Memᴰ·not-nil m)
-mem-instants (b ∷ l) {a} m z = turn (λ k. mem-instants l k z) (List·Memᴰ·cases-cons m)
-  where
-    chosen : Bool → List Arrow
-    chosen t = cond t (weigh (upTo 1) b ∷ instants l) (instants l)
+module _ (labels : List ℕ) where
+  -- a chain: arrows of the list, one at least, lead from s to t, their fewest all 0
+  abbrev Chain : List Arrow → ℕ → ℕ → Type 0
+  Chain l s t = Instant (record { labels = labels; arrows = l }) t s
 
-    turn :
-        (List·Memᴰ a l → List·Memᴰ (weigh (upTo 1) a) (instants l)) → (a ≡ b) ⊎ List·Memᴰ a l →
-        List·Memᴰ (weigh (upTo 1) a) (chosen (eqb (b .fewest) 0))
-    turn ih (inl e) =
-        let t = eq-eqb (b .fewest) 0 (ap (λ c. c .fewest) (sym e) ∙ z) in
-        subst (λ t. List·Memᴰ (weigh (upTo 1) a) (chosen t)) (sym t) (List·Memᴰ·head (ap (weigh (upTo 1)) e))
-    turn ih (inr k) =
-        cond-elim (List·Memᴰ (weigh (upTo 1) a)) (eqb (b .fewest) 0) (λ e. List·Memᴰ·tail (ih k)) (λ e. ih k)
+  -- a chain leads from s to t, or s is t
+  abbrev Reach : List Arrow → ℕ → ℕ → Type 0
+  Reach l s t = (s ≡ t) ⊎ Chain l s t
 
-instants-mem : (l : List Arrow) {b : Arrow} → List·Memᴰ b (instants l) → Weighed l b
-unfolding instants
-instants-mem [] m = absurd (List·Memᴰ·not-nil m)
-instants-mem (c ∷ l) {b} m = turn (λ k. instants-mem l k) (eqb (c .fewest) 0) m
-  where
-    more : Weighed l b → Weighed (c ∷ l) b
-    more w = (w .0, List·Memᴰ·tail (w .1), w .2, w .3)
+  -- s reaches the arrow a, whose fewest is 0, and its end reaches t
+  abbrev Through : Arrow → List Arrow → ℕ → ℕ → Type 0
+  Through a l s t = ((a .fewest ≡ 0) × Reach l s (a .start)) × Reach l (a .end) t
 
-    turn :
-        (List·Memᴰ b (instants l) → Weighed l b) → (t : Bool) →
-        List·Memᴰ b (cond t (weigh (upTo 1) c ∷ instants l) (instants l)) →
-        Weighed (c ∷ l) b
-    turn ih true k =
-        ⊎-elim (λ f. (c, List·Memᴰ·head refl, upTo 1, sym f)) (λ k. more (ih k)) (List·Memᴰ·cases-cons k)
-    turn ih false k = more (ih k)
+  -- ── Chains put together ──
 
--- ── Their numbers ──
+  ahead :
+      {l : List Arrow} {s t : ℕ} (a : Arrow) → List·Memᴰ a l → a .start ≡ s → a .fewest ≡ 0 → Reach l (a .end) t →
+      Chain l s t
+  ahead a m e z (inl f) = last a m e z f
+  ahead a m e z (inr w) = next a m e z w
 
-module _
-    (G : Chart)
-    (inside : (a : Arrow) → List·Memᴰ a (G .arrows) → (a .start < states G) × (a .end < states G))
-    (test : timed G ≡ true) where
-  drawn : Drawn (record { labels = G .labels; arrows = instants (G .arrows) })
-  drawn = weighed-drawn G inside (instants (G .arrows)) (λ b m. instants-mem (G .arrows) m)
+  append : {l : List Arrow} {s t u : ℕ} → Chain l s t → Chain l t u → Chain l s u
+  append {l} {u = u} (last a m e z f) v = next a m e z (subst (λ x. Chain l x u) (sym f) v)
+  append (next a m e z w) v = next a m e z (append w v)
 
-  rank : ℕ → ℕ
-  rank s = num (greatest (instants (G .arrows)) (states G) (suc (states G)) (λ s. true) (λ s. 1)) s
+  -- with one more arrow in the list
+  more : {a : Arrow} {l : List Arrow} {s t : ℕ} → Chain l s t → Chain (a ∷ l) s t
+  more (last b m e z f) = last b (List·Memᴰ·tail m) e z f
+  more (next b m e z w) = next b (List·Memᴰ·tail m) e z (more w)
 
-  rank-le : (s : ℕ) → s < states G → rank s ≤ states G
-  unfolding timed rank
-  rank-le s l =
-      let n = states G in
-      let f : ℕ → Bool = λ s. leb (rank s) n in
-      leb-true (rank s) n (every-true f (tabulate n (λ s. s)) test (mem-tabulate n (λ s. s) s l))
+  join : (a : Arrow) {l : List Arrow} {s t : ℕ} → Chain l s t ⊎ Through a l s t → Chain (a ∷ l) s t
+  join a (inl w) = more w
+  join a (inr ((z, inl e), r)) = ahead a (List·Memᴰ·head refl) (sym e) z (⊎-map (λ f. f) more r)
+  join a (inr ((z, inr w), r)) = append (more w) (ahead a (List·Memᴰ·head refl) refl z (⊎-map (λ f. f) more r))
 
-  -- no arrow offers more, and the numbers are below the cap, so the number falls along each of these arrows
-  rank-falls : (a : Arrow) → List·Memᴰ a (G .arrows) → a .fewest ≡ 0 → rank (a .end) < rank (a .start)
-  unfolding rank
-  rank-falls a m z =
-      let n = states G in
-      let i = inside a m in
-      let w = mem-instants (G .arrows) m z in
-      let some = greatest-base drawn (λ s. true) (suc n) (omega arith) (λ s. 1) (a .end) (i .1) in
-      let more = greatest-quiet drawn (λ s. true) (suc n) (omega arith) (λ s. 1) (weigh (upTo 1) a) w refl some in
-      omega (arith, more, rank-le (a .start) (i .0))
+  -- ── Chains taken apart ──
 
-  chain-falls : {s t : ℕ} → Instant G t s → rank t < rank s
-  chain-falls (last a m e z f) = omega (arith, rank-falls a m z, ap rank e, ap rank f)
-  chain-falls (next a m e z w) = omega (arith, rank-falls a m z, chain-falls w, ap rank e)
+  -- What follows the first arrow b does without a, or goes through a. If b is a itself, the chain goes through a and
+  -- on with what follows, from its last a on. If b is in the list, it goes in front of what is found.
+  split-after :
+      (a b : Arrow) {l : List Arrow} {s t : ℕ} → (b ≡ a) ⊎ List·Memᴰ b l → b .start ≡ s → b .fewest ≡ 0 →
+      Reach l (b .end) t ⊎ Through a l (b .end) t →
+      Chain l s t ⊎ Through a l s t
+  split-after a b {l} {t = t} (inl i) e z (inl r) =
+      inr ((sym (ap (λ c. c .fewest) i) ∙ z, inl (sym e ∙ ap (λ c. c .start) i)), subst (λ c. Reach l (c .end) t) i r)
+  split-after a b (inl i) e z (inr w) = inr ((w .0 .0, inl (sym e ∙ ap (λ c. c .start) i)), w .1)
+  split-after a b (inr k) e z (inl r) = inl (ahead b k e z r)
+  split-after a b (inr k) e z (inr w) = inr ((w .0 .0, inr (ahead b k e z (w .0 .1))), w .1)
 
-  -- along a loop the number would fall below itself
-  pub timed-sound : (s : ℕ) → OnZeroLoop G s → ⊥
-  timed-sound s w = omega (arith, chain-falls w)
+  split : {a : Arrow} {l : List Arrow} {s t : ℕ} → Chain (a ∷ l) s t → Chain l s t ⊎ Through a l s t
+  split {a} (last b m e z f) = split-after a b (List·Memᴰ·cases-cons m) e z (inl (inl f))
+  split {a} (next b m e z w) = split-after a b (List·Memᴰ·cases-cons m) e z (⊎-map inr (λ v. v) (split w))
+
+  -- ── The decision ──
+
+  no-chain : {s t : ℕ} → Chain [] s t → ⊥
+  no-chain (last b m e z f) = List·Memᴰ·not-nil m
+  no-chain (next b m e z w) = List·Memᴰ·not-nil m
+
+  -- By induction on the list: its first arrow need be taken only once.
+  leads-iff : (l : List Arrow) (s t : ℕ) → (leads l s t ≡ true) ↔ Chain l s t
+  unfolding leads
+  leads-iff [] s t = (λ e. absurd (false≢true e), λ w. absurd (no-chain w))
+  leads-iff (a ∷ l) s t =
+      let before = either-iff (eqb-iff s (a .start)) (leads-iff l s (a .start)) in
+      let after = either-iff (eqb-iff (a .end) t) (leads-iff l (a .end) t) in
+      let through = both-iff (both-iff (eqb-iff (a .fewest) 0) before) after in
+      Iff·trans (either-iff (leads-iff l s t) through) (join a, split)
+
+pub on-zero-loop-iff : (G : Chart) (s : ℕ) → (onZeroLoop G s ≡ true) ↔ OnZeroLoop G s
+on-zero-loop-iff G s = leads-iff (G .labels) (G .arrows) s s

@@ -1,12 +1,12 @@
 -- The lowest offender: found just where it offends and nothing below it does.
 use mathlib.Core.Path.{_≡_, refl, sym, ap, subst, _∙_}
 use mathlib.Core.Logic.{_↔_}
-use mathlib.Core.Bool.{Bool, true, false}
+use mathlib.Core.Bool.{Bool, true, false, false≢true}
 use mathlib.Core.Option.{Option, none, some}
 use Prim.Native.Nat.{ℕ, zero, suc, _+_, _-_, _<_}
 use native.Mathlib.Decide.{ℕ-discrete}
 use native.Mathlib.Omega.{arith}
-use Rattle.outcome.specs.Refusal.{orElse, lowest}
+use Rattle.outcome.specs.Refusal.{found, orElse, lowest}
 use Rattle.outcome.proofs.Place.{none≢some, or-none}
 
 -- i is the least number below k of which p says yes
@@ -69,6 +69,14 @@ module _ (p : ℕ → Bool) where
           let z : k ≡ i = cc in
           record { inside = omega arith; offends = ap p (sym z) ∙ g; under = λ j l. none-below k f j (omega arith) }
       turn ih none f false g e = absurd (none≢some e)
+
+  -- an offender below k: there is a lowest one
+  pub offender-found : {k i : ℕ} → i < k → p i ≡ true → found (lowest p k) ≡ true
+  offender-found {k} {i} l e = turn (lowest p k) refl
+    where
+      turn : (o : Option ℕ) → lowest p k ≡ o → found o ≡ true
+      turn none h = absurd (false≢true (sym (none-below k h i l) ∙ e))
+      turn (some j) h = refl
 
   pub lowest-iff : (k i : ℕ) → (lowest p k ≡ some i) ↔ Least p k i
   lowest-iff k i = (some-lowest k i, λ h. lowest-some h)

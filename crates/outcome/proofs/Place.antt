@@ -25,6 +25,10 @@ pub found-some : (o : Option ℕ) → found o ≡ true → (i : ℕ) × (o ≡ s
 found-some (some i) e = (i, refl)
 found-some none e = absurd (false≢true e)
 
+pub found-none : (o : Option ℕ) → found o ≡ false → o ≡ none
+found-none (some i) e = absurd (false≢true (sym e))
+found-none none e = refl
+
 -- where the next number offends, a place is found; where it does not, what was found stays
 pub found-here : (o : Option ℕ) (i : ℕ) → found (orElse o true i) ≡ true
 found-here (some j) i = refl

@@ -2,7 +2,7 @@
 use mathlib.Core.Bool.{Bool, true, false, _||_}
 use mathlib.Core.List.{List, [], _∷_}
 use mathlib.Core.Option.{Option, none, some}
-use Prim.Native.Nat.{ℕ, zero, suc}
+use Prim.Native.Nat.{ℕ, zero, suc, _+_}
 use lib.ListN.{take, drop}
 use lib.Dec.{ltb}
 use Rattle.outcome.specs.declared.Outcome.{Outcome}
@@ -56,3 +56,8 @@ first (refuse n p ∷ rows) = orLater n p (first rows)
 -- k rows of a table from the i-th on, counted from 0: what one function tests
 abbrev pub rows : ℕ → ℕ → List Row → List Row
 rows i k table = take k (drop i table)
+
+-- "the same plus 40": the rows, their numbers k higher
+abbrev pub shifted : ℕ → List Row → List Row
+shifted k [] = []
+shifted k (refuse n p ∷ rows) = refuse (k + n) p ∷ shifted k rows

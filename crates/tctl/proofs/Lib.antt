@@ -12,3 +12,4 @@ pub mod SomeUntil
 pub mod Unmet
 pub mod AllAtMost
 pub mod AllAtLeast
+pub mod Simulation

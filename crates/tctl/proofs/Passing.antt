@@ -14,7 +14,7 @@ use Rattle.tctl.proofs.Prefix.{prefix}
 use Rattle.tctl.proofs.Loop.{looped}
 
 -- the arrows of a path that takes no minute have fewest 0
-instant :
+pub instant :
     {G : Chart} {go : ℕ → Type 0} (u : ℕ) {s : ℕ} (p : Path G go (λ x. x ≡ u) s) →
     1 ≤ steps p →
     minutes p ≡ 0 →

@@ -3,11 +3,12 @@ use mathlib.Core.Path.{_≡_, subst}
 use mathlib.Core.Logic.{_↔_, _⊎_, inl, inr}
 use Prim.Native.Nat.{ℕ, zero, suc, _+_, _<_}
 use native.Mathlib.Omega.{arith}
-use Rattle.tctl.specs.Chart.{Chart}
+use Rattle.tctl.specs.Chart.{Chart, states}
 use Rattle.tctl.specs.Run.{Run, total, moment}
 use Rattle.tctl.specs.Formula.{Bound, Meets}
 use Rattle.tctl.specs.Holds.{Met}
-use Rattle.tctl.proofs.Run.{total-suc}
+use Rattle.tctl.proofs.Drawn.{Drawn}
+use Rattle.tctl.proofs.Run.{total-suc, run-below}
 
 -- the until is met along the sequence, whose first state has the moment k
 pub record Until (P Q : ℕ → Type 0) (b : Bound) (k : ℕ) (state duration : ℕ → ℕ) : Type 0 where
@@ -94,3 +95,16 @@ met-iff-until {G} {P} {Q} {b} {s} r = (down, up)
     up u =
         let e : 0 + moment r (u .position) ≡ moment r (u .position) = omega arith in
         record { position = u .position; intime = subst (Meets b) e (u .intime); there = u .there; before = u .before }
+
+-- an until of P and Q is one of what follows from them at the chart's states
+pub met-map :
+    {G : Chart} → Drawn G → {P Q P′ Q′ : ℕ → Type 0} → ((s : ℕ) → s < states G → P s → P′ s) →
+    ((s : ℕ) → s < states G → Q s → Q′ s) →
+    {b : Bound} {s : ℕ} → s < states G → (r : Run G s) → Met G P Q b s r → Met G P′ Q′ b s r
+met-map dr f g l r m =
+    record {
+      position = m .position;
+      intime = m .intime;
+      there = g (r .state (m .position)) (run-below dr l r (m .position)) (m .there);
+      before = λ j k. f (r .state j) (run-below dr l r j) (m .before j k);
+    }

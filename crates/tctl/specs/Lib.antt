@@ -5,3 +5,4 @@ pub mod Formula
 pub mod Holds
 pub mod Accepted
 pub mod Kind
+pub mod Detail

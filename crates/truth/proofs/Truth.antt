@@ -1,6 +1,6 @@
 -- Truth values: what a test says that is put together from others, and proofs by a test.
 use mathlib.Core.Path.{_≡_, refl, sym}
-use mathlib.Core.Logic.{_↔_, _⊎_, inl, inr}
+use mathlib.Core.Logic.{_↔_, _⊎_, inl, inr, ⊎-map, Iff·trans, Iff·and}
 use mathlib.Core.Bool.{Bool, true, false, not, cond, _&&_, _||_, Bool-discrete, false≢true}
 use Prim.Native.Nat.{ℕ, _≤_}
 use native.Mathlib.Omega.{arith}
@@ -40,6 +40,13 @@ pub or-false : (b c : Bool) → (b || c) ≡ false → (b ≡ false) × (c ≡ f
 or-false true c e = absurd (false≢true (sym e))
 or-false false c e = (refl, e)
 
+-- tests that decide A and B decide both together, and either
+pub both-iff : {A B : Type 0} {b c : Bool} → (b ≡ true) ↔ A → (c ≡ true) ↔ B → ((b && c) ≡ true) ↔ (A × B)
+both-iff {b = b} {c} i j = Iff·trans (and-iff b c) (Iff·and i j)
+
+pub either-iff : {A B : Type 0} {b c : Bool} → (b ≡ true) ↔ A → (c ≡ true) ↔ B → ((b || c) ≡ true) ↔ (A ⊎ B)
+either-iff {b = b} {c} i j = Iff·trans (or-iff b c) (⊎-map (i .0) (j .0), ⊎-map (i .1) (j .1))
+
 -- a choice has what both of its sides have
 pub cond-elim {ℓ κ} :
     {A : Type ℓ} (P : A → Type κ) (b : Bool) {x y : A} → (b ≡ true → P x) → (b ≡ false → P y) → P (cond b x y)
@@ -50,6 +57,17 @@ cond-elim P false f g = g refl
 pub decides : {A : Type 0} (b : Bool) → (b ≡ true → A) → (b ≡ false → ¬ A) → (b ≡ true) ↔ A
 decides true f g = (f, λ a. refl)
 decides false f g = (f, λ a. absurd (g refl a))
+
+-- a test of what is not so says no
+pub no-test : {A : Type 0} {b : Bool} → (b ≡ true) ↔ A → ¬ A → b ≡ false
+no-test {b = true} f h = absurd (h (f .0 refl))
+no-test {b = false} f h = refl
+
+-- tests that decide the same are the same
+pub same-test : {A : Type 0} (b c : Bool) → (b ≡ true) ↔ A → (c ≡ true) ↔ A → b ≡ c
+same-test true c f g = sym (g .1 (f .0 refl))
+same-test false true f g = f .1 (g .0 refl)
+same-test false false f g = refl
 
 -- ── 1 for true and 0 for false ──
 

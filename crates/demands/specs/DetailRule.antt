@@ -1,0 +1,27 @@
+-- The third demand, the detail rule. The quoted sentences are of 01.
+use mathlib.Core.Path.{_≡_}
+use mathlib.Core.Bool.{true}
+use mathlib.Core.List.{List}
+use Prim.Native.Nat.{ℕ}
+use Rattle.tctl.specs.Holds.{Holds}
+use Rattle.tctl.specs.Kind.{Runs, isOf}
+use Rattle.tctl.specs.Detail.{Detail, Carries}
+use Rattle.chart.specs.Bytes.{stateCount, chartOf}
+use Rattle.rule.specs.Formula.{formulaOf}
+use Rattle.loops.specs.Accepted.{AcceptedChart}
+use Rattle.detail.specs.Bytes.{entry, MapFormat}
+
+-- what the rule asks of a detail chart d, an overview o and a map p: both charts are accepted, and "detail state d stands
+-- for the overview state that entry d of the map names"
+pub record Premises (d o p : List ℕ) : Type 0 where
+  pub detail : AcceptedChart d
+  pub overview : AcceptedChart o
+  pub map : MapFormat p (stateCount d)
+  pub under : Detail (chartOf d) (chartOf o) (entry p)
+
+-- the claim about a rule r, of each kind that it has: "A rule of both kinds counts as of each."
+pub record DetailRule (d o p r : List ℕ) : Type 0 where
+  -- "with the second demand's 'holds'"
+  pub meaning :
+      (k : Runs) → isOf k (formulaOf r) ≡ true →
+      Carries k (stateCount d) (entry p) (Holds (chartOf o) (formulaOf r)) (Holds (chartOf d) (formulaOf r))

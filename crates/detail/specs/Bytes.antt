@@ -1,0 +1,27 @@
+-- A map's bytes. The quoted sentences are of 01, "Bytes of a chart, a rule and a map".
+use mathlib.Core.Path.{_≡_}
+use mathlib.Core.List.{List}
+use Prim.Native.Nat.{ℕ, _+_, _*_, _≤_}
+use lib.ListN.{length}
+use Rattle.words.specs.Word.{word}
+use Rattle.head.specs.Head.{version, statedLength}
+
+-- "count in bytes 5 to 6"
+abbrev pub entryCount : List ℕ → ℕ
+entryCount p = word p 5
+
+-- "then for each detail state the 2-byte number of its overview state"
+abbrev pub entry : List ℕ → ℕ → ℕ
+entry p d = word p (7 + 2 * d)
+
+-- a map for a detail chart with n states
+pub record MapFormat (p : List ℕ) (n : ℕ) : Type 0 where
+  pub head : 7 ≤ length p
+  -- "Byte 0 is the version, 1."
+  pub version-one : version p ≡ 1
+  -- "Bytes 1 to 4 give the length of the whole, these five bytes included."
+  pub stated : statedLength p ≡ length p
+  -- "Length 7 + 2 × count."
+  pub whole : length p ≡ 7 + 2 * entryCount p
+  -- "for each detail state"
+  pub count : entryCount p ≡ n

@@ -1,0 +1,45 @@
+-- The refusals of map check: the rows of 01's table, in its order and its words, of a detail chart d, an overview o and a
+-- map p.
+use mathlib.Core.Bool.{Bool, not, _||_}
+use mathlib.Core.List.{List, [], _∷_, _++_}
+use Prim.Native.Nat.{ℕ, _+_, _*_}
+use lib.ListN.{length}
+use lib.Dec.{eqb, ltb, leb}
+use Rattle.outcome.specs.declared.Outcome.{Outcome}
+use Rattle.outcome.specs.Refusal.{Row, refuse, whole, lowest, first, shifted}
+use Rattle.head.specs.Head.{version, statedLength}
+use Rattle.chart.specs.Bytes.{stateCount, arrowCount, labelWord, arrowWords, arrowOf}
+use Rattle.loops.specs.Refusal.{acceptedTable}
+use Rattle.detail.specs.Bytes.{entryCount, entry}
+use Rattle.detail.specs.Covered.{covered}
+
+-- "map under 7 bytes, version not 1, stated length not the real one or not 7 + 2 × count, or count not the detail's n"
+unfoldable pub noMap : List ℕ → ℕ → Bool
+noMap p n =
+    ltb (length p) 7 ||
+    not (eqb (version p) 1) ||
+    not (eqb (statedLength p) (length p)) ||
+    not (eqb (length p) (7 + 2 * entryCount p)) ||
+    not (eqb (entryCount p) n)
+
+unfoldable pub mapTable : List ℕ → List ℕ → List ℕ → List Row
+mapTable d o p =
+    let n = stateCount d in
+    let m = arrowCount d in
+    -- map under 7 bytes, ..
+    refuse 20 (whole (noMap p n)) ∷
+    -- map entry not an overview state
+    refuse 21 (lowest (λ v. leb (stateCount o) (entry p v)) n) ∷
+    -- labels differ
+    refuse 22 (lowest (λ v. not (eqb (labelWord d v) (labelWord o (entry p v)))) n) ∷
+    -- arrow not covered
+    refuse 23 (lowest (λ i. not (covered o (entry p) (arrowOf (arrowWords d i)))) m) ∷
+    []
+
+-- "Map check tests the detail chart (1 to 9, then 19), then the overview (the same plus 40: 41 to 49, 59; an empty overview
+-- is 41), then 20 to 23."
+unfoldable pub mapCheckTable : List ℕ → List ℕ → List ℕ → List Row
+mapCheckTable d o p = acceptedTable d ++ shifted 40 (acceptedTable o) ++ mapTable d o p
+
+abbrev pub mapRefusal : List ℕ → List ℕ → List ℕ → Outcome
+mapRefusal d o p = first (mapCheckTable d o p)

@@ -1,0 +1,9 @@
+pub mod Climb
+pub mod Loops
+pub mod Passed
+pub mod Raised
+pub mod Climbed
+pub mod Filled
+pub mod Decided
+pub mod Row
+pub mod Chain

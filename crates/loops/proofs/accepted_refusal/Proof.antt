@@ -1,0 +1,61 @@
+-- Checks 1 to 9, then row 19 on the first n numbers of a local array.
+use Rattle.loops.proofs.Chain.{prefix-size, chart-refuses, chart-whole, chart-small, chart-passed, loop-next}
+use mathlib.Core.Path.{sym}
+use native.Mathlib.Omega.{arith}
+use denote.Ref.{now}
+use borrow.Author.Needs.{needs}
+use Rattle.loops.proofs.accepted_refusal.Statement.{statement}
+use Rattle.loops.proofs.accepted_refusal.Tie as tie
+use Rattle.loops.proofs.accepted_refusal.Reads as reads
+use Rattle.loops.proofs.accepted_refusal.Lts as lts
+use Rattle.chart.proofs.arrow_count.Reads as arrow-count-reads
+use Rattle.chart.proofs.refusals.chart_refusal.Reads as chart-refusal-reads
+use Rattle.chart.proofs.state_count.Reads as state-count-reads
+use Rattle.loops.proofs.loop_refusal.Reads as loop-refusal-reads
+
+chart-refusal-requires : tie.Need-chart-refusal-requires
+chart-refusal-requires c κs = search needs
+
+returns : tie.Need-returns
+returns c = chart-refuses _ (c .before .before .chart-refusal .ensures) (c .if1 .taken)
+
+state-count-requires : tie.Need-state-count-requires
+state-count-requires c κs = chart-whole _ (c .before .before .chart-refusal .ensures) (c .if1 .left)
+
+arrow-count-requires : tie.Need-arrow-count-requires
+arrow-count-requires c κs = chart-whole _ (c .before .before .before .chart-refusal .ensures) (c .before .if1 .left)
+
+array-borrow-prefix-numbers : tie.Need-array-borrow-prefix-numbers
+array-borrow-prefix-numbers c =
+    let small = chart-small _ (c .before .before .before .before .chart-refusal .ensures) (c .before .before .if1 .left) in
+    omega (arith, small, c .before .state-count .ensures .0)
+
+slice-aggregate-loop-refusal : tie.Need-slice-aggregate-loop-refusal
+slice-aggregate-loop-refusal c =
+    let small = chart-small _ (c .before .before .before .before .before .chart-refusal .ensures) (c .before .before .before .if1 .left) in
+    sym (prefix-size (c .before .before .state-count .result) _ (omega (arith, small, c .before .before .state-count .ensures .0)))
+
+loop-refusal-requires : tie.Need-loop-refusal-requires
+loop-refusal-requires c κs =
+    let e = c .before .before .before .before .before .chart-refusal .ensures in
+    let z = c .before .before .before .if1 .left in
+    let n = c .before .before .state-count in
+    let small = chart-small _ e z in
+    (chart-passed _ e z (n .ensures .0) (c .before .arrow-count .ensures .0), prefix-size (n .result) _ (omega (arith, small, n .ensures .0)))
+
+returns-2 : tie.Need-returns-2
+returns-2 c =
+    loop-next _ (c .before .before .before .before .before .before .before .chart-refusal .ensures) (c .before .before .before .before .before .if1 .left) (c .before .loop-refusal .ensures)
+
+pub accepted-refusal-spec : {M : Type 1} → statement M
+accepted-refusal-spec =
+    tie.close
+    (tie.spec
+    chart-refusal-requires
+    returns
+    state-count-requires
+    arrow-count-requires
+    array-borrow-prefix-numbers
+    slice-aggregate-loop-refusal
+    loop-refusal-requires
+    returns-2)

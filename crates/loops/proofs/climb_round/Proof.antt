@@ -1,0 +1,68 @@
+use Rattle.loops.proofs.Climb.{climb-size, climb-numbers}
+-- Invariant: the first i arrows were offered.
+use mathlib.Core.Path.{subst}
+use Prim.Native.Nat.{ℕ, _≤_, _-_}
+use native.Mathlib.Omega.{arith}
+use denote.Ref.{now}
+use Rattle.loops.specs.Parts.{Climbed}
+use Rattle.loops.proofs.Passed.{shaped}
+use Rattle.loops.proofs.Climbed.{climbed-none, climbed-more}
+use Rattle.loops.proofs.climb_round.Statement.{statement}
+use Rattle.loops.proofs.climb_round.Tie as tie
+use Rattle.loops.proofs.climb_round.Reads as reads
+use Rattle.loops.proofs.climb_round.Lts as lts
+use Rattle.loops.proofs.climb_arrow.Reads as climb-arrow-reads
+
+abbrev Inv-loop : tie.InvT-loop
+Inv-loop chart n m cap numbers₀ raised₀ i₀ numbers raised i = (i ≤ m) × Climbed chart cap 0 i raised numbers₀ numbers
+
+abbrev μ-loop : tie.MeasureT-loop
+μ-loop chart n m cap numbers₀ raised₀ i₀ numbers raised i = m - i
+
+loop-holds : tie.Need-loop-holds Inv-loop μ-loop
+loop-holds c = (omega arith, climbed-none)
+
+climb-arrow-requires : tie.Need-climb-arrow-requires Inv-loop μ-loop
+climb-arrow-requires c κs =
+    let p = c .before .before .before .before .before .pre in
+    let inv = c .before .before .loop .inv in
+    (p .0, c .before .loop-test .taken, climb-numbers (p .1) (inv .1 .climbs), p .2)
+
+add-raised : tie.Need-add-raised Inv-loop μ-loop
+add-raised c =
+    let loop = c .before .before .before .before .before .loop in
+    let p = c .before .before .before .before .before .before .before .before .pre in
+    omega (arith, loop .inv .0, loop .inv .1 .few, c .before .before .climb-arrow .ensures .few, shaped (p .0) .few-arrows)
+
+add-i : tie.Need-add-i Inv-loop μ-loop
+add-i c = omega arith
+
+loop-less : tie.Need-loop-less Inv-loop μ-loop
+loop-less c = omega arith
+
+loop-again : tie.Need-loop-again Inv-loop μ-loop
+loop-again c = (omega arith, climbed-more (c .before .before .before .before .before .loop .inv .1) (c .before .before .climb-arrow .ensures))
+
+same-length : tie.Need-same-length Inv-loop μ-loop
+same-length c = climb-size (c .before .loop .inv .1 .climbs)
+
+returns : tie.Need-returns Inv-loop μ-loop
+returns c =
+    let a = c .before .before .before .before .args in
+    let loop = c .before .loop in
+    subst (λ (k : ℕ). Climbed (now (a .chart)) (a .cap) 0 k (loop .raised) (now (a .numbers)) (loop .numbers)) (omega arith) (loop .inv .1)
+
+pub climb-round-spec : {M : Type 1} → statement M
+climb-round-spec =
+    tie.close
+    (tie.spec
+    Inv-loop
+    μ-loop
+    loop-holds
+    climb-arrow-requires
+    add-raised
+    add-i
+    loop-less
+    loop-again
+    same-length
+    returns)

@@ -1,0 +1,60 @@
+use lib.ListN.{length, length-set}
+use borrow.Author.Count.{below-none}
+use Rattle.loops.proofs.Filled.{filled-more}
+-- Invariant: the numbers before i are v.
+use mathlib.Core.Path.{_≡_, refl}
+use Prim.Native.Nat.{ℕ, _≤_, _<_, _-_}
+use native.Mathlib.Omega.{arith}
+use lib.ListN.{length}
+use Rattle.model.specs.Engine.{num}
+use Rattle.loops.proofs.fill.Statement.{statement}
+use Rattle.loops.proofs.fill.Tie as tie
+use Rattle.loops.proofs.fill.Reads as reads
+use Rattle.loops.proofs.fill.Lts as lts
+
+abbrev Inv-loop : tie.InvT-loop
+Inv-loop numbers₀ v i₀ numbers i = (i ≤ length numbers₀) × (length numbers ≡ length numbers₀) × ((s : ℕ) → s < i → num numbers s ≡ v)
+
+abbrev μ-loop : tie.MeasureT-loop
+μ-loop numbers₀ v i₀ numbers i = length numbers₀ - i
+
+loop-holds : tie.Need-loop-holds Inv-loop μ-loop
+loop-holds c = (omega arith, refl, below-none _)
+
+mul-numbers : tie.Need-mul-numbers Inv-loop μ-loop
+mul-numbers c = omega arith
+
+slice-write-numbers : tie.Need-slice-write-numbers Inv-loop μ-loop
+slice-write-numbers c = omega (arith, c .before .loop .inv .1)
+
+add-i : tie.Need-add-i Inv-loop μ-loop
+add-i c = omega arith
+
+loop-less : tie.Need-loop-less Inv-loop μ-loop
+loop-less c = omega arith
+
+loop-again : tie.Need-loop-again Inv-loop μ-loop
+loop-again c =
+    let loop = c .before .loop in
+    (omega arith, simp length-set (loop .inv .1), filled-more (loop .numbers) (loop .i) (c .before .before .args .v) (omega (arith, loop .inv .1)) (loop .inv .2))
+
+same-length : tie.Need-same-length Inv-loop μ-loop
+same-length c = c .before .loop .inv .1
+
+returns : tie.Need-returns Inv-loop μ-loop
+returns c = λ s l. c .before .loop .inv .2 s (omega (arith, c .before .loop .inv .1))
+
+pub fill-spec : {M : Type 1} → statement M
+fill-spec =
+    tie.close
+    (tie.spec
+    Inv-loop
+    μ-loop
+    loop-holds
+    mul-numbers
+    slice-write-numbers
+    add-i
+    loop-less
+    loop-again
+    same-length
+    returns)

@@ -1,0 +1,46 @@
+-- Without a loop no state is on one.
+use Rattle.loops.proofs.Row.{row-not-found}
+use mathlib.Core.Path.{sym, _∙_}
+use borrow.Author.Needs.{needs}
+use Rattle.loops.proofs.loop_refusal.Statement.{statement}
+use Rattle.loops.proofs.loop_refusal.Tie as tie
+use Rattle.loops.proofs.loop_refusal.Reads as reads
+use Rattle.loops.proofs.loop_refusal.Lts as lts
+use Rattle.loops.proofs.lowest_on_loop.Reads as lowest-on-loop-reads
+use Rattle.loops.proofs.some_loop.Reads as some-loop-reads
+use Rattle.outcome.proofs.accepted.Reads as accepted-reads
+
+some-loop-requires : tie.Need-some-loop-requires
+some-loop-requires c κs = search needs
+
+lowest-on-loop-requires : tie.Need-lowest-on-loop-requires
+lowest-on-loop-requires c κs = search needs
+
+same-length : tie.Need-same-length
+same-length c = search needs
+
+returns : tie.Need-returns
+returns c = search needs
+
+accepted-requires : tie.Need-accepted-requires
+accepted-requires c κs = search needs
+
+same-length-2 : tie.Need-same-length-2
+same-length-2 c = search needs
+
+returns-2 : tie.Need-returns-2
+returns-2 c =
+    let found = sym (c .before .if1 .left) ∙ c .before .before .before .before .some-loop .ensures in
+    row-not-found (c .before .before .before .before .before .before .before .before .pre .0) found (c .accepted .ensures)
+
+pub loop-refusal-spec : {M : Type 1} → statement M
+loop-refusal-spec =
+    tie.close
+    (tie.spec
+    some-loop-requires
+    lowest-on-loop-requires
+    same-length
+    returns
+    accepted-requires
+    same-length-2
+    returns-2)

@@ -1,0 +1,67 @@
+-- The numbers are settled from 1 at g alone; g has more than 1 just if it is on a loop.
+use mathlib.Core.Path.{_≡_, _∙_}
+use native.Mathlib.Omega.{arith}
+use lib.ListN.{length, length-set}
+use denote.Ref.{now}
+use Rattle.loops.proofs.Climb.{climb-size}
+use Rattle.loops.proofs.Decided.{lone-numbers, lone-answer}
+use borrow.Author.Needs.{needs}
+use Rattle.loops.proofs.on_loop.Statement.{statement}
+use Rattle.loops.proofs.on_loop.Tie as tie
+use Rattle.loops.proofs.on_loop.Reads as reads
+use Rattle.loops.proofs.on_loop.Lts as lts
+use Rattle.loops.proofs.fill.Reads as fill-reads
+use Rattle.loops.proofs.settle.Reads as settle-reads
+
+fill-requires : tie.Need-fill-requires
+fill-requires c κs = search needs
+
+mul-numbers : tie.Need-mul-numbers
+mul-numbers c = search needs
+
+slice-write-numbers : tie.Need-slice-write-numbers
+slice-write-numbers c = search needs
+
+settle-requires : tie.Need-settle-requires
+settle-requires c κs =
+    let start = c .before .before .before .before .before .before .before in
+    let p = start .pre in
+    let f = c .before .before .before .fill in
+    (p .0, lone-numbers (f .last .0) (λ s l. f .ensures s (omega (arith, f .kept .0))) (f .kept .0 ∙ p .2) (p .1), omega arith)
+
+mul-result : tie.Need-mul-result
+mul-result c = search needs
+
+slice-read-result : tie.Need-slice-read-result
+slice-read-result c =
+    let start = c .before .before .before .before .before .before .before .before .before .before .before in
+    let p = start .pre in
+    let f = c .before .before .before .before .before .before .before .fill in
+    let size = climb-size (c .before .before .before .settle .ensures .climbs) ∙ length-set (f .last .0) (start .args .g) 1 in
+    omega (arith, size, f .kept .0, p .1, p .2)
+
+same-length : tie.Need-same-length
+same-length c =
+    let start = c .before .before .before .before .before .before .before .before .before .before .before in
+    let f = c .before .before .before .before .before .before .before .fill in
+    climb-size (c .before .before .before .settle .ensures .climbs) ∙ length-set (f .last .0) (start .args .g) 1 ∙ f .kept .0
+
+returns : tie.Need-returns
+returns c =
+    let start = c .before .before .before .before .before .before .before .before .before .before .before in
+    let p = start .pre in
+    let f = c .before .before .before .before .before .before .before .fill in
+    lone-answer (f .last .0) (λ s l. f .ensures s (omega (arith, f .kept .0))) (f .kept .0 ∙ p .2) (p .1) (now (start .args .chart)) (c .before .before .before .settle .ensures)
+
+pub on-loop-spec : {M : Type 1} → statement M
+on-loop-spec =
+    tie.close
+    (tie.spec
+    fill-requires
+    mul-numbers
+    slice-write-numbers
+    settle-requires
+    mul-result
+    slice-read-result
+    same-length
+    returns)

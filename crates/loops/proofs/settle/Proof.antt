@@ -1,0 +1,58 @@
+use native.Mathlib.Omega.{arith}
+-- Invariant: the numbers are those that rounds made of the first. Each further round leaves less room under the cap.
+use mathlib.Core.Path.{subst}
+use Rattle.chart.specs.Bytes.{chartOf}
+use Rattle.loops.specs.Climb.{Climbs, same, room}
+use Rattle.loops.specs.Parts.{Settled}
+use Rattle.loops.proofs.Climb.{climb-trans, climb-size, climb-numbers}
+use Rattle.loops.proofs.Climbed.{climbed-quiet}
+use Rattle.loops.proofs.settle.Statement.{statement}
+use Rattle.loops.proofs.settle.Tie as tie
+use Rattle.loops.proofs.settle.Reads as reads
+use Rattle.loops.proofs.settle.Lts as lts
+use Rattle.loops.proofs.climb_round.Reads as climb-round-reads
+
+abbrev Inv-loop : tie.InvT-loop
+Inv-loop chart n m cap numbers₀ numbers = Climbs (chartOf chart) cap numbers₀ numbers
+
+abbrev μ-loop : tie.MeasureT-loop
+μ-loop chart n m cap numbers₀ numbers = room cap numbers
+
+loop-holds : tie.Need-loop-holds Inv-loop μ-loop
+loop-holds c = same
+
+climb-round-requires : tie.Need-climb-round-requires Inv-loop μ-loop
+climb-round-requires c κs =
+    let p = c .before .before .before .before .pre in
+    (p .0, climb-numbers (p .1) (c .before .loop .inv), p .2)
+
+loop-less : tie.Need-loop-less Inv-loop μ-loop
+loop-less c = c .before .before .before .climb-round .ensures .falls (omega arith)
+
+loop-again : tie.Need-loop-again Inv-loop μ-loop
+loop-again c = climb-trans (c .before .before .before .before .before .loop .inv) (c .before .before .before .climb-round .ensures .climbs)
+
+same-length : tie.Need-same-length Inv-loop μ-loop
+same-length c = climb-size (climb-trans (c .before .before .before .before .before .loop .inv) (c .before .before .before .climb-round .ensures .climbs))
+
+returns : tie.Need-returns Inv-loop μ-loop
+returns c =
+    let p = c .before .before .before .before .before .before .before .before .pre in
+    let x = c .before .before .before .climb-round .ensures in
+    record {
+      climbs = climb-trans (c .before .before .before .before .before .loop .inv) (x .climbs);
+      quiet = climbed-quiet (p .0) x (c .if1 .left);
+    }
+
+pub settle-spec : {M : Type 1} → statement M
+settle-spec =
+    tie.close
+    (tie.spec
+    Inv-loop
+    μ-loop
+    loop-holds
+    climb-round-requires
+    loop-less
+    loop-again
+    same-length
+    returns)

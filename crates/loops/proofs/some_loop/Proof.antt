@@ -1,0 +1,101 @@
+-- Invariant: no number before s is the cap.
+use mathlib.Core.Path.{_≡_, _∙_}
+use Prim.Native.Nat.{ℕ, _+_, _≤_, _<_, _-_}
+use native.Mathlib.Omega.{arith}
+use lib.ListN.{length}
+use borrow.Author.Count.{below-none, below-more}
+use denote.Ref.{now}
+use Rattle.model.specs.Engine.{num}
+use Rattle.loops.proofs.Climb.{climb-size}
+use Rattle.loops.proofs.Passed.{shaped}
+use Rattle.loops.proofs.Decided.{ones-numbers, loop-found, none-found}
+use Rattle.loops.proofs.some_loop.Statement.{statement}
+use Rattle.loops.proofs.some_loop.Tie as tie
+use Rattle.loops.proofs.some_loop.Reads as reads
+use Rattle.loops.proofs.some_loop.Lts as lts
+use Rattle.loops.proofs.fill.Reads as fill-reads
+use Rattle.loops.proofs.settle.Reads as settle-reads
+
+abbrev Inv-loop : tie.InvT-loop
+Inv-loop chart n m numbers cap s₀ s = (s ≤ n) × ((v : ℕ) → v < s → ¬ (num numbers v ≡ cap))
+
+abbrev μ-loop : tie.MeasureT-loop
+μ-loop chart n m numbers cap s₀ s = n - s
+
+cast-cap : tie.Need-cast-cap Inv-loop μ-loop
+cast-cap c = omega (arith, shaped (c .before .before .pre .0) .few-states)
+
+add-cap : tie.Need-add-cap Inv-loop μ-loop
+add-cap c = omega (arith, shaped (c .before .before .pre .0) .few-states)
+
+fill-requires : tie.Need-fill-requires Inv-loop μ-loop
+fill-requires c κs = tt
+
+settle-requires : tie.Need-settle-requires Inv-loop μ-loop
+settle-requires c κs =
+    let p = c .before .before .before .before .before .before .before .pre in
+    let f = c .before .before .before .fill in
+    let numbers = ones-numbers (f .last .0) (λ s l. f .ensures s (omega (arith, f .kept .0))) (f .kept .0 ∙ p .1) in
+    (p .0, numbers, omega (arith, shaped (p .0) .few-states))
+
+loop-holds : tie.Need-loop-holds Inv-loop μ-loop
+loop-holds c = (omega arith, below-none _)
+
+mul-if1 : tie.Need-mul-if1 Inv-loop μ-loop
+mul-if1 c = omega (arith, shaped (c .before .before .before .before .before .before .before .before .before .before .before .before .pre .0) .few-states)
+
+slice-read-if1 : tie.Need-slice-read-if1 Inv-loop μ-loop
+slice-read-if1 c =
+    let p = c .before .before .before .before .before .before .before .before .before .before .before .before .before .pre in
+    let size = climb-size (c .before .before .before .before .before .settle .ensures .climbs) ∙ c .before .before .before .before .before .before .before .before .before .fill .kept .0 in
+    omega (arith, size, p .1)
+
+same-length : tie.Need-same-length Inv-loop μ-loop
+same-length c = climb-size (c .before .before .before .before .before .before .settle .ensures .climbs) ∙ c .before .before .before .before .before .before .before .before .before .before .fill .kept .0
+
+returns : tie.Need-returns Inv-loop μ-loop
+returns c =
+    let p = c .before .before .before .before .before .before .before .before .before .before .before .before .before .before .pre in
+    let f = c .before .before .before .before .before .before .before .before .before .before .fill in
+    loop-found (f .last .0) (λ s l. f .ensures s (omega (arith, f .kept .0))) (f .kept .0 ∙ p .1) (p .0) (c .before .before .before .before .before .before .settle .ensures) _ (c .before .before .loop-test .taken) (c .if1 .taken)
+
+add-s : tie.Need-add-s Inv-loop μ-loop
+add-s c = omega arith
+
+loop-less : tie.Need-loop-less Inv-loop μ-loop
+loop-less c = omega arith
+
+loop-again : tie.Need-loop-again Inv-loop μ-loop
+loop-again c =
+    let loop = c .before .before .before .loop in
+    (omega arith, below-more _ (loop .s) (loop .inv .1) (c .if1 .left))
+
+same-length-2 : tie.Need-same-length-2 Inv-loop μ-loop
+same-length-2 c = climb-size (c .before .before .before .before .settle .ensures .climbs) ∙ c .before .before .before .before .before .before .before .before .fill .kept .0
+
+returns-2 : tie.Need-returns-2 Inv-loop μ-loop
+returns-2 c =
+    let p = c .before .before .before .before .before .before .before .before .before .before .before .before .pre in
+    let f = c .before .before .before .before .before .before .before .before .fill in
+    none-found (f .last .0) (λ s l. f .ensures s (omega (arith, f .kept .0))) (f .kept .0 ∙ p .1) (p .0) (c .before .before .before .before .settle .ensures) (λ v l. c .before .loop .inv .1 v (omega arith))
+
+pub some-loop-spec : {M : Type 1} → statement M
+some-loop-spec =
+    tie.close
+    (tie.spec
+    Inv-loop
+    μ-loop
+    cast-cap
+    add-cap
+    fill-requires
+    settle-requires
+    loop-holds
+    mul-if1
+    slice-read-if1
+    same-length
+    returns
+    add-s
+    loop-less
+    loop-again
+    same-length-2
+    returns-2)

@@ -1,0 +1,4 @@
+pub mod Refusal
+pub mod Accepted
+pub mod Climb
+pub mod Parts
