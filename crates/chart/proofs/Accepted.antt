@@ -4,6 +4,7 @@ use mathlib.Core.Bool.{Bool, true, false, not, cond}
 use mathlib.Core.List.{List, List·Memᴰ}
 use Prim.Native.Nat.{ℕ, _≤_, _<_}
 use native.Mathlib.Omega.{arith}
+use lib.ListN.{drop}
 use lib.Dec.{ltb, eqb}
 use borrow.Author.Tests.{ltb-false, eqb-true, not-false}
 use Rattle.truth.proofs.Truth.{or-false}
@@ -11,8 +12,11 @@ use Rattle.tctl.specs.Chart.{Arrow, upTo, noEnd, Within, states}
 use Rattle.tctl.specs.Accepted.{Accepted, OnZeroLoop}
 use Rattle.outcome.specs.Refusal.{lowest}
 use Rattle.outcome.proofs.Place.{found-some}
-use Rattle.outcome.proofs.First.{unmet-at}
+use Rattle.outcome.proofs.First.{unmet-at, zero-iff}
+use Rattle.outcome.proofs.Unmet.{unmet-append-iff}
 use Rattle.outcome.proofs.Lowest.{none-below, some-lowest}
+use Rattle.head.specs.Head.{headRows}
+use Rattle.head.proofs.Passed.{Headed, head-iff}
 use Rattle.chart.specs.Bytes.{stateCount, arrowCount, arrowWords, arrowOf, mostOf, chartOf}
 use Rattle.chart.specs.Shape.{Shape}
 use Rattle.chart.specs.Refusals.{chartTable, chartRefusal, leftBy, emptySlot}
@@ -22,6 +26,7 @@ use Rattle.chart.proofs.Chart.{states-of, arrow-mem, arrow-of}
 
 -- none of the rows' conditions is met
 pub record Checked (s : List ℕ) : Type 0 where
+  pub head : Headed 9 s
   pub shape : Shape s (stateCount s) (arrowCount s)
   pub ends :
       (i : ℕ) → i < arrowCount s → (arrowWords s i .start < stateCount s) × (arrowWords s i .end < stateCount s)
@@ -34,7 +39,9 @@ checked s e =
     let n = stateCount s in
     let m = arrowCount s in
     let unmet = unmet-at (chartTable s) tt e in
+    let parts = unmet-append-iff (headRows 1 9 s) (drop 3 (chartTable s)) .0 (zero-iff (chartTable s) tt .0 e) in
     record {
+      head = head-iff 1 9 s .0 (parts .0);
       shape = shape s refl refl (unmet 3) (unmet 4) (unmet 5);
       ends = named s n m (unmet 6);
       slots = none-below (λ i. emptySlot (arrowWords s i)) m (unmet 7);

@@ -3,3 +3,4 @@ pub mod Left
 pub mod Passed
 pub mod Chart
 pub mod Accepted
+pub mod Converse

@@ -7,11 +7,11 @@ use Prim.Native.Nat.{ℕ, _+_, _*_, _<_}
 use native.Mathlib.Omega.{arith}
 use lib.ListN.{length, drop}
 use lib.Dec.{leb, eqb}
-use borrow.Author.Tests.{leb-false, eqb-true, not-false}
+use borrow.Author.Tests.{leb-false}
 use Rattle.truth.proofs.Truth.{or-false}
 use Rattle.outcome.specs.declared.Outcome.{Outcome}
 use Rattle.outcome.specs.Refusal.{whole, outside, lowest, first, rows}
-use Rattle.outcome.proofs.Place.{whole-none, inside}
+use Rattle.outcome.proofs.Place.{whole-none, none-equal, inside}
 use Rattle.outcome.proofs.First.{unmet-at}
 use Rattle.outcome.proofs.Lowest.{none-below}
 use Rattle.chart.specs.Bytes.{stateCount, arrowCount, arrowWords}
@@ -30,8 +30,7 @@ module _ (s : List ℕ) where
     shape a b d =
         let x = inside 1 256 (stateCount s) (whole-none (outside 1 256 (stateCount s)) a) in
         let y = inside 1 2048 (arrowCount s) (whole-none (outside 1 2048 (arrowCount s)) b) in
-        let l = 9 + 2 * stateCount s + 8 * arrowCount s in
-        let z = eqb-true (length s) l (not-false (eqb (length s) l) (whole-none (not (eqb (length s) l)) d)) in
+        let z = none-equal (length s) (9 + 2 * stateCount s + 8 * arrowCount s) d in
         record {
           states = en;
           arrows = em;

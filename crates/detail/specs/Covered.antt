@@ -6,6 +6,7 @@ use lib.Dec.{eqb, leb}
 use Rattle.tctl.specs.Chart.{Arrow, Most, upTo, noEnd}
 use Rattle.outcome.specs.Refusal.{found, lowest}
 use Rattle.chart.specs.Bytes.{arrowCount, arrowWords, arrowOf}
+use Rattle.detail.specs.Bytes.{entry}
 
 -- the most k contains the most m: "'No end' contains every most", and nothing else contains it
 abbrev pub contains : Most → Most → Bool
@@ -14,10 +15,16 @@ contains (upTo k) (upTo m) = leb m k
 contains (upTo k) noEnd = false
 
 -- the overview arrow b, "from the start's mapped state to the end's, has a slot containing the whole slot" of a
-abbrev pub covers : (ℕ → ℕ) → Arrow → Arrow → Bool
-covers f a b =
-    eqb (b .start) (f (a .start)) && eqb (b .end) (f (a .end)) && leb (b .fewest) (a .fewest) && contains (b .most) (a .most)
+abbrev pub covers : ℕ → ℕ → Arrow → Arrow → Bool
+covers from to a b =
+    eqb (b .start) from && eqb (b .end) to && leb (b .fewest) (a .fewest) && contains (b .most) (a .most)
 
 -- "one overview arrow" of the chart o does; "several joined don't count"
-unfoldable pub covered : List ℕ → (ℕ → ℕ) → Arrow → Bool
-covered o f a = found (lowest (λ j. covers f a (arrowOf (arrowWords o j))) (arrowCount o))
+unfoldable pub covered : List ℕ → ℕ → ℕ → Arrow → Bool
+covered o from to a = found (lowest (λ j. covers from to a (arrowOf (arrowWords o j))) (arrowCount o))
+
+-- arrow i of the chart d is covered, by the map p
+abbrev pub coveredAt : List ℕ → List ℕ → List ℕ → ℕ → Bool
+coveredAt d o p i =
+    let a = arrowOf (arrowWords d i) in
+    covered o (entry p (a .start)) (entry p (a .end)) a

@@ -1,3 +1,4 @@
 pub mod Bytes
 pub mod Covered
 pub mod Refusals
+pub mod Parts

@@ -8,10 +8,10 @@ use lib.Dec.{eqb, ltb, leb}
 use Rattle.outcome.specs.declared.Outcome.{Outcome}
 use Rattle.outcome.specs.Refusal.{Row, refuse, whole, lowest, first, shifted}
 use Rattle.head.specs.Head.{version, statedLength}
-use Rattle.chart.specs.Bytes.{stateCount, arrowCount, labelWord, arrowWords, arrowOf}
+use Rattle.chart.specs.Bytes.{stateCount, arrowCount, labelWord}
 use Rattle.loops.specs.Refusal.{acceptedTable}
 use Rattle.detail.specs.Bytes.{entryCount, entry}
-use Rattle.detail.specs.Covered.{covered}
+use Rattle.detail.specs.Covered.{coveredAt}
 
 -- "map under 7 bytes, version not 1, stated length not the real one or not 7 + 2 × count, or count not the detail's n"
 unfoldable pub noMap : List ℕ → ℕ → Bool
@@ -33,7 +33,7 @@ mapTable d o p =
     -- labels differ
     refuse 22 (lowest (λ v. not (eqb (labelWord d v) (labelWord o (entry p v)))) n) ∷
     -- arrow not covered
-    refuse 23 (lowest (λ i. not (covered o (entry p) (arrowOf (arrowWords d i)))) m) ∷
+    refuse 23 (lowest (λ i. not (coveredAt d o p i)) m) ∷
     []
 
 -- "Map check tests the detail chart (1 to 9, then 19), then the overview (the same plus 40: 41 to 49, 59; an empty overview

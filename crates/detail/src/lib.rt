@@ -1,1 +1,190 @@
 // Map check: whether a detail chart is one under an overview chart, by a map.
+ghost use mathlib.Core.Path.{_≡_};
+ghost use mathlib.Core.List.{[], _∷_};
+ghost use Prim.Native.Nat.{ℕ, _+_, _*_, _≤_, _<_};
+ghost use lib.ListN.{length};
+ghost use Rattle.outcome.specs.Refusal.{first};
+ghost use Rattle.chart.specs.Bytes.{arrowOf, mostOf};
+ghost use Rattle.chart.specs.Refusals.{chartRefusal};
+ghost use Rattle.loops.specs.Parts.{Passed};
+ghost use Rattle.detail.specs.Bytes.{entry};
+ghost use Rattle.detail.specs.Covered.{contains, covers, covered};
+ghost use Rattle.detail.specs.Refusals.{mapTable, mapRefusal};
+ghost use Rattle.detail.specs.Parts.{formRow, entryRow, labelRow, coverRow, Mapped};
+use chart::ArrowWords;
+use outcome::Outcome;
+
+// The overview state that detail state d stands for.
+fn entry_at(map: &[u8], d: usize) -> usize
+    requires { ⌜ 7 + 2 * d + 2 ≤ length (now map) ⌝ }
+    ensures { λ r. ⌜ (r ≡ entry (now (map .entry)) d) × (r < 65536) ⌝ }
+{
+    words::be16(map, 7 + 2 * d) as usize
+}
+
+// Row 20.
+fn form_refusal(map: &[u8], n: usize) -> Outcome
+    ensures { λ r. ⌜ r ≡ first (formRow (now (map .entry)) n ∷ []) ⌝ }
+{
+    let head = head::head_refusal(map, 7, 20);
+    if head.number != 0 {
+        return outcome::refused(20, 0);
+    }
+    let count = words::be16(map, 5) as usize;
+    if map.len() != 7 + 2 * count {
+        return outcome::refused(20, 0);
+    }
+    if count != n {
+        return outcome::refused(20, 0);
+    }
+    outcome::accepted()
+}
+
+// Row 21.
+fn entry_refusal(map: &[u8], n: usize, k: usize) -> Outcome
+    requires { ⌜ (7 + 2 * n ≤ length (now map)) × (n ≤ 256) ⌝ }
+    ensures { λ r. ⌜ r ≡ first (entryRow (now (map .entry)) n k ∷ []) ⌝ }
+{
+    let mut d = 0;
+    while d < n {
+        if k <= entry_at(map, d) {
+            return outcome::refused(21, d as u32);
+        }
+        d += 1;
+    }
+    outcome::accepted()
+}
+
+// Row 22.
+fn label_refusal(
+    detail: &[u8],
+    n: usize,
+    m: usize,
+    overview: &[u8],
+    k: usize,
+    l: usize,
+    map: &[u8],
+) -> Outcome
+    requires { ⌜ Passed (now detail) n m × Passed (now overview) k l × Mapped (now map) n k ⌝ }
+    ensures { λ r. ⌜ r ≡ first (labelRow (now (detail .entry)) (now (overview .entry)) (now (map .entry)) n ∷ []) ⌝ }
+{
+    let mut d = 0;
+    while d < n {
+        let own = chart::label_word(detail, d);
+        let e = entry_at(map, d);
+        if own != chart::label_word(overview, e) {
+            return outcome::refused(22, d as u32);
+        }
+        d += 1;
+    }
+    outcome::accepted()
+}
+
+// The most by contains the most m: "no end" contains every most, and no other contains it.
+fn contains_most(by: u32, m: u32) -> bool
+    requires { ⌜ by < 65536 ⌝ }
+    ensures { λ r. ⌜ r ≡ contains (mostOf by) (mostOf m) ⌝ }
+{
+    if by == 65535 {
+        return true;
+    }
+    m <= by
+}
+
+// The overview arrow b covers the detail arrow a, whose ends stand for the states from and to.
+fn covers_arrow(from: usize, to: usize, a: ArrowWords, b: ArrowWords) -> bool
+    requires { ⌜ b .most < 65536 ⌝ }
+    ensures { λ r. ⌜ r ≡ covers from to (arrowOf a) (arrowOf b) ⌝ }
+{
+    if b.start != from {
+        return false;
+    }
+    if b.end != to {
+        return false;
+    }
+    if a.fewest < b.fewest {
+        return false;
+    }
+    contains_most(b.most, a.most)
+}
+
+// One arrow of the overview covers the detail arrow a.
+fn covered_arrow(overview: &[u8], k: usize, l: usize, from: usize, to: usize, a: ArrowWords) -> bool
+    requires { ⌜ Passed (now overview) k l ⌝ }
+    ensures { λ r. ⌜ r ≡ covered (now (overview .entry)) from to (arrowOf a) ⌝ }
+{
+    let mut j = 0;
+    while j < l {
+        let b = chart::arrow_at(overview, k, j);
+        if covers_arrow(from, to, a, b) {
+            return true;
+        }
+        j += 1;
+    }
+    false
+}
+
+// Row 23.
+fn cover_refusal(
+    detail: &[u8],
+    n: usize,
+    m: usize,
+    overview: &[u8],
+    k: usize,
+    l: usize,
+    map: &[u8],
+) -> Outcome
+    requires { ⌜ Passed (now detail) n m × Passed (now overview) k l × Mapped (now map) n k ⌝ }
+    ensures { λ r. ⌜ r ≡ first (coverRow (now (detail .entry)) (now (overview .entry)) (now (map .entry)) m ∷ []) ⌝ }
+{
+    let mut i = 0;
+    while i < m {
+        let a = chart::arrow_at(detail, n, i);
+        let from = entry_at(map, a.start);
+        let to = entry_at(map, a.end);
+        if !covered_arrow(overview, k, l, from, to, a) {
+            return outcome::refused(23, i as u32);
+        }
+        i += 1;
+    }
+    outcome::accepted()
+}
+
+// Rows 20 to 23, of charts that pass checks 1 to 9.
+fn map_refusal(detail: &[u8], overview: &[u8], map: &[u8]) -> Outcome
+    requires { ⌜ (chartRefusal (now detail) .number ≡ 0) × (chartRefusal (now overview) .number ≡ 0) ⌝ }
+    ensures { λ r. ⌜ r ≡ first (mapTable (now (detail .entry)) (now (overview .entry)) (now (map .entry))) ⌝ }
+{
+    let n = chart::state_count(detail);
+    let form = form_refusal(map, n);
+    if form.number != 0 {
+        return form;
+    }
+    let k = chart::state_count(overview);
+    let entries = entry_refusal(map, n, k);
+    if entries.number != 0 {
+        return entries;
+    }
+    let m = chart::arrow_count(detail);
+    let l = chart::arrow_count(overview);
+    let labels = label_refusal(detail, n, m, overview, k, l, map);
+    if labels.number != 0 {
+        return labels;
+    }
+    cover_refusal(detail, n, m, overview, k, l, map)
+}
+
+// Number and place of the first row of the table that is met.
+pub fn map_check(detail: &[u8], overview: &[u8], map: &[u8]) -> Outcome
+    ensures { λ r. ⌜ r ≡ mapRefusal (now (detail .entry)) (now (overview .entry)) (now (map .entry)) ⌝ }
+{
+    let lower = loops::accepted_refusal(detail);
+    if lower.number != 0 {
+        return lower;
+    }
+    let upper = loops::accepted_refusal(overview);
+    if upper.number != 0 {
+        return outcome::refused(upper.number + 40, upper.place);
+    }
+    map_refusal(detail, overview, map)
+}

@@ -1,15 +1,44 @@
--- What a head that is passed tells.
+-- A head that is passed: what it tells, and that nothing more is asked.
 use mathlib.Core.Path.{_≡_}
+use mathlib.Core.Logic.{_↔_}
 use mathlib.Core.List.{List}
+use mathlib.Core.Option.{none}
 use Prim.Native.Nat.{ℕ, _≤_}
 use lib.ListN.{length}
 use lib.Dec.{ltb}
-use borrow.Author.Tests.{ltb-false}
+use borrow.Author.Tests.{ltb-false, le-ltb}
 use Rattle.outcome.specs.declared.Outcome.{Outcome}
-use Rattle.outcome.specs.Refusal.{first}
-use Rattle.outcome.proofs.Place.{whole-none}
-use Rattle.outcome.proofs.First.{Numbered, unmet-at, part-zero}
-use Rattle.head.specs.Head.{headRows}
+use Rattle.outcome.specs.Refusal.{whole, first}
+use Rattle.outcome.proofs.Place.{whole-none, none-equal, equal-none}
+use Rattle.outcome.proofs.First.{Unmet, end, Numbered, zero-iff, part-zero}
+use Rattle.outcome.proofs.Unmet.{unmet-more, unmet-row}
+use Rattle.head.specs.Head.{version, statedLength, headRows}
+
+-- none of the head's conditions is met
+pub record Headed (least : ℕ) (s : List ℕ) : Type 0 where
+  pub enough : least ≤ length s
+  pub version-one : version s ≡ 1
+  pub stated : statedLength s ≡ length s
+
+module _ (number least : ℕ) (s : List ℕ) where
+  headed : Unmet (headRows number least s) → Headed least s
+  headed u =
+      let x = unmet-row u in
+      let y = unmet-row (x .1) in
+      let z = unmet-row (y .1) in
+      record {
+        enough = ltb-false (length s) least (whole-none (ltb (length s) least) (x .0));
+        version-one = none-equal (version s) 1 (y .0);
+        stated = none-equal (statedLength s) (length s) (z .0);
+      }
+
+  unmet : Headed least s → Unmet (headRows number least s)
+  unmet h =
+      let e : whole (ltb (length s) least) ≡ none = rw (le-ltb (length s) least (h .enough)) in
+      unmet-more e (unmet-more (equal-none (h .version-one)) (unmet-more (equal-none (h .stated)) end))
+
+  pub head-iff : Unmet (headRows number least s) ↔ Headed least s
+  head-iff = (headed, unmet)
 
 -- at least as many bytes as were asked for
 pub head-passed :
@@ -19,5 +48,4 @@ pub head-passed :
     r .number ≡ 0 →
     least ≤ length s
 head-passed number least s h e z =
-    let p = unmet-at (headRows number least s) h (part-zero (headRows number least s) e z) 0 in
-    ltb-false (length s) least (whole-none (ltb (length s) least) p)
+    headed number least s (zero-iff (headRows number least s) h .0 (part-zero (headRows number least s) e z)) .enough

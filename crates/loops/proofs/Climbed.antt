@@ -64,18 +64,18 @@ module _ {s : List ℕ} {cap : ℕ} where
         climbs (inr k) =
             let y = x .higher k in
             subst (Climbs (chartOf s) cap old) (sym (y .1)) (
-              more same (
-                record {
-                  arrow = arrowOf (arrowWords s i);
-                  drawn = arrow-mem s i (omega (arith, p .arrows));
-                  leaves = refl;
-                  instant = e;
-                  some = y .5;
-                  higher = y .2;
-                  capped = y .3;
-                  close = y .4;
-                }
-              )
+            more same (
+            record {
+              arrow = arrowOf (arrowWords s i);
+              drawn = arrow-mem s i (omega (arith, p .arrows));
+              leaves = refl;
+              instant = e;
+              some = y .5;
+              higher = y .2;
+              capped = y .3;
+              close = y .4;
+            }
+            )
             )
 
         falls : 1 ≤ r → room cap new < room cap old
@@ -92,7 +92,7 @@ module _ {s : List ℕ} {cap : ℕ} where
         Climbed s cap i (i + 1) r old new
     climbed-one {r = r} {old} {new} p l size e =
         subst (λ w. w .fewest ≡ 0 → Raised cap (w .start) (w .end) r old new → Climbed s cap i (i + 1) r old new) (sym e)
-            (climbed-here p l size)
+        (climbed-here p l size)
 
   -- one arrow more
   pub climbed-more :

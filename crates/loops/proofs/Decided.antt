@@ -46,8 +46,8 @@ module _ (vs : List ℕ) (zeros : All 0 vs) {n g : ℕ} (size : length vs ≡ n)
       λ t h. getD-set-other vs g t 1 0 h ∙ (let z : num vs t ≡ 0 = omega (arith, filled-le vs zeros t) in z) in
       let iff = on-loop-iff g one others (x .climbs) (x .quiet) in
       same-test (ltb 1 (num ws g)) (onZeroLoop (chartOf s) g)
-          (λ e. iff .0 (ltb-true 1 (num ws g) e), λ w. lt-ltb 1 (num ws g) (iff .1 w))
-          (on-zero-loop-iff (chartOf s) g)
+      (λ e. iff .0 (ltb-true 1 (num ws g) e), λ w. lt-ltb 1 (num ws g) (iff .1 w))
+      (on-zero-loop-iff (chartOf s) g)
 
 -- ── Whether there is a loop ──
 

@@ -16,8 +16,8 @@ pub filled-more :
     (s : ℕ) → s < i + 1 → num (set vs i v) s ≡ v
 filled-more vs i v l f =
     below-more (λ s. num (set vs i v) s ≡ v) i
-        (λ s h. getD-set-other vs i s v 0 (λ e. let z : ⊥ = omega arith in z) ∙ f s h)
-        (getD-set-same vs i v 0 l)
+    (λ s h. getD-set-other vs i s v 0 (λ e. let z : ⊥ = omega arith in z) ∙ f s h)
+    (getD-set-same vs i v 0 l)
 
 beyond : (vs : List ℕ) (s : ℕ) → length vs ≤ s → num vs s ≡ 0
 beyond [] s l = refl

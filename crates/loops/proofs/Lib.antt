@@ -7,3 +7,4 @@ pub mod Filled
 pub mod Decided
 pub mod Row
 pub mod Chain
+pub mod Accepted

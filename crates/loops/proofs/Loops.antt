@@ -64,7 +64,7 @@ module _
 abbrev Walk : Chart → ℕ → ℕ → Type 0
 Walk G s x = s < states G → (p : Path G Any Any s) × (x ≤ suc (steps p)) × (minutes p ≡ 0)
 
-chain-below : {G : Chart} → Drawn G → {s t : ℕ} → Instant G t s → s < states G
+pub chain-below : {G : Chart} → Drawn G → {s t : ℕ} → Instant G t s → s < states G
 chain-below dr (last a m e z f) = omega (arith, dr .starts a m)
 chain-below dr (next a m e z c) = omega (arith, dr .starts a m)
 

@@ -6,8 +6,8 @@ use mathlib.Core.Bool.{not as neg}
 use Prim.Native.Nat.{ℕ, _<_, _/_, _%_, _^_}
 use lib.ListN.{getD}
 use lib.Dec.{eqb}
-use borrow.Author.Tests.{eqb-true, eq-eqb}
 use Rattle.truth.proofs.Truth.{not-iff, both-iff, either-iff}
+use Rattle.truth.proofs.Compare.{eqb-iff}
 use Rattle.tctl.specs.Chart.{Chart, states}
 use Rattle.tctl.specs.Formula.{Formula, always, label, not, and, or, someUntil, allUntil}
 use Rattle.tctl.specs.Holds.{Holds}
@@ -23,7 +23,7 @@ unfolding row
 holds-iff G acc always s l = row-iff (states G) (λ s. true) s l (λ e. tt, λ h. refl)
 holds-iff G acc (label i) s l =
     let v : ℕ → ℕ = λ s. getD (G .labels) s 0 / 2 ^ i % 2 in
-    row-iff (states G) (λ s. eqb (v s) 1) s l (eqb-true (v s) 1, eq-eqb (v s) 1)
+    row-iff (states G) (λ s. eqb (v s) 1) s l (eqb-iff (v s) 1)
 holds-iff G acc (not f) s l =
     let i = Iff·trans (not-iff (holds G f s)) (Iff·not (holds-iff G acc f s l)) in
     row-iff (states G) (λ s. neg (holds G f s)) s l i

@@ -5,15 +5,11 @@ use mathlib.Core.List.{List, [], _∷_}
 use mathlib.Core.List.{List·Memᴰ, List·Memᴰ·head, List·Memᴰ·tail, List·Memᴰ·cases-cons, List·Memᴰ·not-nil}
 use mathlib.Core.Bool.{true, false≢true}
 use Prim.Native.Nat.{ℕ}
-use lib.Dec.{eqb}
-use borrow.Author.Tests.{eqb-true, eq-eqb}
 use Rattle.truth.proofs.Truth.{both-iff, either-iff}
+use Rattle.truth.proofs.Compare.{eqb-iff}
 use Rattle.tctl.specs.Chart.{Chart, Arrow}
 use Rattle.tctl.specs.Accepted.{Instant, last, next, OnZeroLoop}
 use Rattle.model.specs.ZeroLoop.{leads, onZeroLoop}
-
-eqb-iff : (m n : ℕ) → (eqb m n ≡ true) ↔ (m ≡ n)
-eqb-iff m n = (eqb-true m n, eq-eqb m n)
 
 module _ (labels : List ℕ) where
   -- a chain: arrows of the list, one at least, lead from s to t, their fewest all 0

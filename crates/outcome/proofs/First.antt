@@ -106,14 +106,12 @@ first-is-met (refuse k (some i) ∷ rows) n p l e =
 pub first-iff : (rows : List Row) (n p : ℕ) → 0 < n → (first rows ≡ refusal n p) ↔ FirstMet rows n p
 first-iff rows n p l = (first-is-met rows n p l, met-first rows n p)
 
-success-unmet : (rows : List Row) → Numbered rows → first rows ≡ success → Unmet rows
+zero-unmet : (rows : List Row) → Numbered rows → first rows .number ≡ 0 → Unmet rows
 unfolding first
-success-unmet [] h e = end
-success-unmet (refuse zero p ∷ rows) h e = absurd h
-success-unmet (refuse (suc n) none ∷ rows) h e = passed (suc n) (success-unmet rows h e)
-success-unmet (refuse (suc n) (some i) ∷ rows) h e =
-    let z : suc n ≡ 0 = ap (λ (o : Outcome). o .number) e in
-    absurd (let o : ⊥ = omega arith in o)
+zero-unmet [] h e = end
+zero-unmet (refuse zero p ∷ rows) h e = absurd h
+zero-unmet (refuse (suc n) none ∷ rows) h e = passed (suc n) (zero-unmet rows h e)
+zero-unmet (refuse (suc n) (some i) ∷ rows) h e = absurd (let z : ⊥ = omega arith in z)
 
 unmet-success : {rows : List Row} → Unmet rows → first rows ≡ success
 unfolding first
@@ -122,4 +120,8 @@ unmet-success (passed n u) = unmet-success u
 
 -- a call succeeds just where no row is met
 pub success-iff : (rows : List Row) → Numbered rows → (first rows ≡ success) ↔ Unmet rows
-success-iff rows h = (success-unmet rows h, λ u. unmet-success u)
+success-iff rows h = (λ e. zero-unmet rows h (ap (λ (o : Outcome). o .number) e), λ u. unmet-success u)
+
+-- the same of its number alone
+pub zero-iff : (rows : List Row) → Numbered rows → (first rows .number ≡ 0) ↔ Unmet rows
+zero-iff rows h = (zero-unmet rows h, λ u. ap (λ (o : Outcome). o .number) (unmet-success u))

@@ -1,4 +1,7 @@
 pub mod Place
 pub mod Lowest
 pub mod First
+pub mod Unmet
+pub mod Shift
 pub mod Search
+pub mod Bounded

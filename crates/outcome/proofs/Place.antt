@@ -1,11 +1,11 @@
 -- Conditions that are not met, and a place that may be none, of a search that goes on to the next number.
 use mathlib.Core.Path.{_≡_, refl, sym}
-use mathlib.Core.Bool.{Bool, true, false, false≢true}
+use mathlib.Core.Bool.{Bool, true, false, not, false≢true}
 use mathlib.Core.Option.{Option, none, some}
 use Prim.Native.Nat.{ℕ, _≤_}
 use native.Mathlib.Omega.{arith}
-use lib.Dec.{ltb}
-use borrow.Author.Tests.{ltb-false}
+use lib.Dec.{ltb, eqb}
+use borrow.Author.Tests.{ltb-false, le-ltb, eqb-true, eq-eqb, not-false}
 use Rattle.truth.proofs.Truth.{or-false}
 use Rattle.outcome.specs.Refusal.{whole, outside, found, orElse}
 
@@ -16,10 +16,20 @@ pub whole-none : (b : Bool) → whole b ≡ none → b ≡ false
 whole-none false e = refl
 whole-none true e = absurd (none≢some (sym e))
 
+-- two numbers that must be the same
+pub none-equal : (a b : ℕ) → whole (not (eqb a b)) ≡ none → a ≡ b
+none-equal a b e = eqb-true a b (not-false (eqb a b) (whole-none (not (eqb a b)) e))
+
+pub equal-none : {a b : ℕ} → a ≡ b → whole (not (eqb a b)) ≡ none
+equal-none {a} {b} e = rw (eq-eqb a b e)
+
 pub inside : (a b x : ℕ) → outside a b x ≡ false → (a ≤ x) × (x ≤ b)
 inside a b x e =
     let h = or-false (ltb x a) (ltb b x) e in
     (ltb-false x a (h .0), ltb-false b x (h .1))
+
+pub inside-none : (a b x : ℕ) → a ≤ x → x ≤ b → whole (outside a b x) ≡ none
+inside-none a b x l h = rw (le-ltb x a l, le-ltb b x h)
 
 pub found-some : (o : Option ℕ) → found o ≡ true → (i : ℕ) × (o ≡ some i)
 found-some (some i) e = (i, refl)

@@ -47,6 +47,10 @@ both-iff {b = b} {c} i j = Iff·trans (and-iff b c) (Iff·and i j)
 pub either-iff : {A B : Type 0} {b c : Bool} → (b ≡ true) ↔ A → (c ≡ true) ↔ B → ((b || c) ≡ true) ↔ (A ⊎ B)
 either-iff {b = b} {c} i j = Iff·trans (or-iff b c) (⊎-map (i .0) (j .0), ⊎-map (i .1) (j .1))
 
+-- tests whose no decides A and B: both say no just where both are so
+pub neither-iff : {A B : Type 0} {b c : Bool} → (b ≡ false) ↔ A → (c ≡ false) ↔ B → ((b || c) ≡ false) ↔ (A × B)
+neither-iff {b = b} {c} i j = Iff·trans (or-false b c, λ h. rw (h .0, h .1)) (Iff·and i j)
+
 -- a choice has what both of its sides have
 pub cond-elim {ℓ κ} :
     {A : Type ℓ} (P : A → Type κ) (b : Bool) {x y : A} → (b ≡ true → P x) → (b ≡ false → P y) → P (cond b x y)

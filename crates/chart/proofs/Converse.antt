@@ -1,0 +1,83 @@
+-- A chart whose bytes have the format and whose meaning is accepted passes checks 1 to 9.
+use mathlib.Core.Path.{_≡_, refl, sym, ap, _∙_}
+use mathlib.Core.Bool.{Bool, true, false, not, cond}
+use mathlib.Core.List.{List}
+use Prim.Native.Nat.{ℕ, _≤_, _<_}
+use native.Mathlib.Omega.{arith}
+use lib.Dec.{eqb}
+use borrow.Author.Tests.{le-ltb, lt-leb, eq-eqb, ne-eqb, eqb-true}
+use Rattle.tctl.specs.Chart.{Arrow, upTo, noEnd, Within}
+use Rattle.tctl.specs.Accepted.{Accepted}
+use Rattle.outcome.proofs.Place.{equal-none, inside-none}
+use Rattle.outcome.proofs.First.{Unmet, end}
+use Rattle.outcome.proofs.Unmet.{unmet-more, unmet-append-iff}
+use Rattle.outcome.proofs.Lowest.{below-none, offender-found}
+use Rattle.head.specs.Head.{headRows}
+use Rattle.head.proofs.Passed.{Headed, head-iff}
+use Rattle.chart.specs.Bytes.{stateCount, arrowCount, arrowWords, mostOf, chartOf}
+use Rattle.chart.specs.Shape.{Shape}
+use Rattle.chart.specs.Refusals.{chartTable, namesNoState, emptySlot, leftBy}
+use Rattle.chart.specs.declared.ArrowWords.{ArrowWords}
+use Rattle.chart.proofs.Accepted.{Checked}
+use Rattle.chart.proofs.Chart.{states-of, arrow-mem, arrow-of}
+
+-- ── The conditions of an arrow ──
+
+names-states : (n : ℕ) (w : ArrowWords) → (w .start < n) × (w .end < n) → namesNoState n w ≡ false
+names-states n w h = rw (lt-leb n (w .start) (h .0), lt-leb n (w .end) (h .1))
+
+-- fewest is at most most: the slot says so, or most is 65,535, read as "no end"
+within-slot : (w : ArrowWords) → Within (w .fewest) (mostOf (w .most)) → w .fewest ≤ 65534 → emptySlot w ≡ false
+within-slot w h l =
+    rw (le-ltb (w .most) (w .fewest) (turn (eqb (w .most) 65535) refl h), ne-eqb (w .fewest) 65535 (λ e. omega arith))
+  where
+    turn :
+        (b : Bool) → eqb (w .most) 65535 ≡ b → Within (w .fewest) (cond b noEnd (upTo (w .most))) → w .fewest ≤ w .most
+    turn true e h = omega (arith, eqb-true (w .most) 65535 e)
+    turn false e h = h
+
+-- ── The table ──
+
+-- row by row, each condition is false
+pub checked-unmet : (s : List ℕ) → Checked s → Unmet (chartTable s)
+unfolding chartTable
+checked-unmet s ok =
+    let n = stateCount s in
+    let m = arrowCount s in
+    let w = arrowWords s in
+    let h = ok .shape in
+    let four = inside-none 1 256 n (h .some-states) (h .few-states) in
+    let five = inside-none 1 2048 m (h .some-arrows) (h .few-arrows) in
+    let six = equal-none (h .whole) in
+    let seven = below-none (λ i. namesNoState n (w i)) m (λ i l. names-states n (w i) (ok .ends i l)) in
+    let eight = below-none (λ i. emptySlot (w i)) m (ok .slots) in
+    let nine = below-none (λ v. not (leftBy s m v)) n (λ v l. ap not (ok .left v l)) in
+    let body = unmet-more seven (unmet-more eight (unmet-more nine end)) in
+    let rest = unmet-more four (unmet-more five (unmet-more six body)) in
+    unmet-append-iff (headRows 1 9 s) _ .1 (head-iff 1 9 s .1 (ok .head), rest)
+
+module _ (s : List ℕ) (acc : Accepted (chartOf s)) where
+  -- the arrow of the chart that leaves v is one of the bytes', so one is found
+  left : (v : ℕ) → v < stateCount s → leftBy s (arrowCount s) v ≡ true
+  unfolding leftBy
+  left v l =
+      let x = acc .leaves v (omega (arith, states-of s)) in
+      let y = arrow-of s (x .0) (x .1) in
+      let e = sym (ap (λ (a : Arrow). a .start) (y .2)) ∙ x .2 in
+      offender-found (λ i. eqb (arrowWords s i .start) v) (y .1) (eq-eqb _ v e)
+
+  -- rows 7 to 9 from the meaning, the others from the format
+  pub accepted-checked :
+      Headed 9 s → Shape s (stateCount s) (arrowCount s) →
+      ((i : ℕ) → i < arrowCount s → arrowWords s i .fewest ≤ 65534) →
+      Checked s
+  accepted-checked head shape fewest =
+      record {
+        head = head;
+        shape = shape;
+        ends = λ i l.
+            let m = arrow-mem s i l in
+            (omega (arith, acc .starts _ m, states-of s), omega (arith, acc .ends _ m, states-of s));
+        slots = λ i l. within-slot (arrowWords s i) (acc .slots _ (arrow-mem s i l)) (fewest i l);
+        left = left;
+      }

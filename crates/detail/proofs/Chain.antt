@@ -1,0 +1,106 @@
+-- The table of map check by parts: the detail's rows, the overview's with their numbers 40 higher, and the map's.
+use mathlib.Core.Path.{_≡_, refl, ap, _∙_}
+use mathlib.Core.List.{List, [], _∷_, _++_}
+use Prim.Native.Nat.{ℕ, _+_, _*_, _≤_, _<_}
+use native.Mathlib.Omega.{arith}
+use lib.ListN.{length}
+use lib.Dec.{leb}
+use borrow.Author.Tests.{leb-false}
+use Rattle.outcome.specs.declared.Outcome.{Outcome}
+use Rattle.outcome.specs.Refusal.{Row, refusal, first, shifted, whole, lowest}
+use Rattle.outcome.proofs.Lowest.{none-below}
+use Rattle.outcome.proofs.First.{part-zero, part-refuses, part-passes, unmet-at}
+use Rattle.outcome.proofs.Shift.{shift-numbered, shift-passes, shift-refuses}
+use Rattle.outcome.proofs.Bounded.{number-le}
+use Rattle.chart.specs.Bytes.{stateCount, arrowCount}
+use Rattle.chart.specs.Refusals.{chartTable}
+use Rattle.loops.specs.Refusal.{loopRow, acceptedTable, acceptedRefusal}
+use Rattle.loops.proofs.Accepted.{accepted-numbered}
+use Rattle.detail.specs.Bytes.{entry}
+use Rattle.detail.specs.Refusals.{noMap, mapTable, mapCheckTable, mapRefusal}
+use Rattle.detail.specs.Parts.{formRow, entryRow, labelRow, coverRow, Mapped}
+use Rattle.detail.proofs.Format.{format-iff}
+
+-- a chart's own numbers leave room for 40 more
+pub accepted-number : (s : List ℕ) → acceptedRefusal s .number ≤ 19
+unfolding acceptedTable chartTable loopRow
+accepted-number s = number-le 19 (acceptedTable s) refl
+
+module _ (d o p : List ℕ) where
+  -- ── The charts ──
+
+  upper : List Row
+  upper = shifted 40 (acceptedTable o)
+
+  pub lower-refuses : {a : Outcome} → a ≡ acceptedRefusal d → (a .number ≡ 0 → ⊥) → a ≡ mapRefusal d o p
+  unfolding mapCheckTable
+  lower-refuses e h =
+      part-refuses (acceptedTable d ++ shifted 40 (acceptedTable o)) (mapTable d o p)
+      (part-refuses (acceptedTable d) (shifted 40 (acceptedTable o)) e h) h
+
+  module _ {a b : Outcome} (e : a ≡ acceptedRefusal d) (z : a .number ≡ 0) (f : b ≡ acceptedRefusal o) where
+    -- what the overview's rows answer, the rows of both charts answer
+    both : {r : Outcome} → r ≡ first (shifted 40 (acceptedTable o)) → r ≡ first (acceptedTable d ++ shifted 40 (acceptedTable o))
+    both = part-passes (acceptedTable d) (shifted 40 (acceptedTable o)) (accepted-numbered d) e z
+
+    pub upper-refuses :
+        {r : Outcome} → (b .number ≡ 0 → ⊥) → r ≡ refusal (b .number + 40) (b .place) → r ≡ mapRefusal d o p
+    unfolding mapCheckTable
+    upper-refuses {r} h k =
+        let some : r .number ≡ b .number + 40 = ap (λ (x : Outcome). x .number) k in
+        part-refuses (acceptedTable d ++ shifted 40 (acceptedTable o)) (mapTable d o p)
+        (both (k ∙ shift-refuses 40 (acceptedTable o) f h)) (λ w. let y : ⊥ = omega (arith, some, w) in y)
+
+    pub map-next : {r : Outcome} → b .number ≡ 0 → r ≡ first (mapTable d o p) → r ≡ mapRefusal d o p
+    unfolding mapCheckTable acceptedTable chartTable loopRow
+    map-next w =
+        let passes = both (shift-passes 40 (acceptedTable o) (accepted-numbered o) f w) in
+        part-passes (acceptedTable d ++ shifted 40 (acceptedTable o)) (mapTable d o p) tt passes refl
+
+  -- ── The map, with n detail states, k overview states and m detail arrows ──
+
+  module _ {n : ℕ} (en : n ≡ stateCount d) where
+    table : {k m : ℕ} → k ≡ stateCount o → m ≡ arrowCount d →
+        first (formRow p n ∷ entryRow p n k ∷ labelRow d o p n ∷ coverRow d o p m ∷ []) ≡ first (mapTable d o p)
+    unfolding mapTable
+    table ek em = rw (en, ek, em) refl
+
+    module _ {f : Outcome} (form : f ≡ first (formRow p n ∷ [])) where
+      pub form-stops : (f .number ≡ 0 → ⊥) → f ≡ first (mapTable d o p)
+      form-stops h = part-refuses (formRow p n ∷ []) (_ ∷ _ ∷ _ ∷ []) form h ∙ table refl refl
+
+      module _ (z : f .number ≡ 0) where
+        pub map-whole : 7 + 2 * n ≤ length p
+        map-whole =
+            let x = format-iff p n .0 (unmet-at (formRow p n ∷ []) tt (part-zero (formRow p n ∷ []) form z) 0) in
+            omega (arith, x .whole, x .count)
+
+        module _ {k : ℕ} (ek : k ≡ stateCount o) {g : Outcome} (entries : g ≡ first (entryRow p n k ∷ [])) where
+          pub entries-stop : (g .number ≡ 0 → ⊥) → g ≡ first (mapTable d o p)
+          entries-stop h =
+              part-passes (formRow p n ∷ []) (_ ∷ _ ∷ _ ∷ []) tt form z
+              (part-refuses (entryRow p n k ∷ []) (_ ∷ _ ∷ []) entries h) ∙
+              table ek refl
+
+          module _ (y : g .number ≡ 0) where
+            pub mapped : Mapped p n k
+            mapped =
+                let unmet = unmet-at (entryRow p n k ∷ []) tt (part-zero (entryRow p n k ∷ []) entries y) 0 in
+                record {
+                  whole = map-whole;
+                  inside = λ v l. leb-false k (entry p v) (none-below (λ v. leb k (entry p v)) n unmet v l);
+                }
+
+            module _ {m : ℕ} (em : m ≡ arrowCount d) {h : Outcome} (labels : h ≡ first (labelRow d o p n ∷ [])) where
+              -- rows 20 and 21 are passed
+              rest : {r : Outcome} → r ≡ first (labelRow d o p n ∷ coverRow d o p m ∷ []) → r ≡ first (mapTable d o p)
+              rest e =
+                  part-passes (formRow p n ∷ []) (_ ∷ _ ∷ _ ∷ []) tt form z
+                  (part-passes (entryRow p n k ∷ []) (_ ∷ _ ∷ []) tt entries y e) ∙
+                  table ek em
+
+              pub labels-stop : (h .number ≡ 0 → ⊥) → h ≡ first (mapTable d o p)
+              labels-stop x = rest (part-refuses (labelRow d o p n ∷ []) (coverRow d o p m ∷ []) labels x)
+
+              pub cover-last : {r : Outcome} → h .number ≡ 0 → r ≡ first (coverRow d o p m ∷ []) → r ≡ first (mapTable d o p)
+              cover-last x e = rest (part-passes (labelRow d o p n ∷ []) (coverRow d o p m ∷ []) tt labels x e)

@@ -1,0 +1,109 @@
+-- Invariant: every detail arrow before i is covered.
+use mathlib.Core.Path.{_≡_, ap, _∙_}
+use mathlib.Core.Bool.{false, not}
+use Prim.Native.Nat.{ℕ, _≤_, _<_, _-_}
+use native.Mathlib.Omega.{arith}
+use borrow.Author.Count.{below-none, below-more}
+use denote.Ref.{now}
+use Rattle.outcome.proofs.Search.{search-found, search-ended}
+use Rattle.chart.specs.declared.ArrowWords.{ArrowWords}
+use Rattle.chart.proofs.Arrow.{arrow-inside}
+use Rattle.loops.proofs.Passed.{shaped, arrow-ends}
+use Rattle.detail.specs.Covered.{coveredAt}
+use Rattle.detail.proofs.Tested.{covered-read}
+use Rattle.detail.proofs.cover_refusal.Statement.{statement}
+use Rattle.detail.proofs.cover_refusal.Tie as tie
+use Rattle.detail.proofs.cover_refusal.Reads as reads
+use Rattle.detail.proofs.cover_refusal.Lts as lts
+use Rattle.chart.proofs.arrow_at.Reads as arrow-at-reads
+use Rattle.detail.proofs.covered_arrow.Reads as covered-arrow-reads
+use Rattle.detail.proofs.entry_at.Reads as entry-at-reads
+use Rattle.outcome.proofs.accepted.Reads as accepted-reads
+use Rattle.outcome.proofs.refused.Reads as refused-reads
+
+abbrev Inv-loop : tie.InvT-loop
+Inv-loop detail n m overview k l map i₀ i = (i ≤ m) × ((j : ℕ) → j < i → not (coveredAt detail overview map j) ≡ false)
+
+abbrev μ-loop : tie.MeasureT-loop
+μ-loop detail n m overview k l map i₀ i = m - i
+
+loop-holds : tie.Need-loop-holds Inv-loop μ-loop
+loop-holds c = (omega arith, below-none _)
+
+arrow-at-requires : tie.Need-arrow-at-requires Inv-loop μ-loop
+arrow-at-requires c κs = arrow-inside (shaped (c .before .before .before .before .before .pre .0)) (c .loop-test .taken)
+
+entry-at-requires : tie.Need-entry-at-requires Inv-loop μ-loop
+entry-at-requires c κs =
+    let p = c .before .before .before .before .before .before .pre in
+    let below = arrow-ends (p .0) (c .before .before .loop .i) (c .before .loop-test .taken) in
+    let e = ap (λ (w : ArrowWords). w .start) (c .arrow-at .ensures .0) in
+    omega (arith, p .2 .whole, below .0)
+
+entry-at-requires-2 : tie.Need-entry-at-requires-2 Inv-loop μ-loop
+entry-at-requires-2 c κs =
+    let p = c .before .before .before .before .before .before .before .pre in
+    let below = arrow-ends (p .0) (c .before .before .before .loop .i) (c .before .before .loop-test .taken) in
+    let e = ap (λ (w : ArrowWords). w .end) (c .before .arrow-at .ensures .0) in
+    omega (arith, p .2 .whole, below .1)
+
+covered-arrow-requires : tie.Need-covered-arrow-requires Inv-loop μ-loop
+covered-arrow-requires c κs = c .before .before .before .before .before .before .before .before .pre .1
+
+cast-refused : tie.Need-cast-refused Inv-loop μ-loop
+cast-refused c = omega (arith, shaped (c .before .before .before .before .before .before .before .before .before .before .pre .0) .few-arrows)
+
+refused-requires : tie.Need-refused-requires Inv-loop μ-loop
+refused-requires c κs = tt
+
+returns : tie.Need-returns Inv-loop μ-loop
+returns c =
+    let a = c .before .before .before .before .before .before .before .before .before .before .before .args in
+    let loop = c .before .before .before .before .before .before .before .loop in
+    let w = c .before .before .before .before .before .arrow-at .ensures .0 in
+    let from = c .before .before .before .before .entry-at .ensures .0 in
+    let to = c .before .before .before .entry-at2 .ensures .0 in
+    let e = covered-read (now (a .detail)) (now (a .overview)) (now (a .map)) (loop .i) w from to (c .before .before .covered-arrow .ensures) (c .before .if1 .taken) in
+    c .refused .ensures ∙ search-found 23 (record { inside = omega arith; offends = e; under = loop .inv .1 })
+
+add-i : tie.Need-add-i Inv-loop μ-loop
+add-i c = omega arith
+
+loop-less : tie.Need-loop-less Inv-loop μ-loop
+loop-less c = omega arith
+
+loop-again : tie.Need-loop-again Inv-loop μ-loop
+loop-again c =
+    let a = c .before .before .before .before .before .before .before .before .before .before .args in
+    let loop = c .before .before .before .before .before .before .loop in
+    let w = c .before .before .before .before .arrow-at .ensures .0 in
+    let from = c .before .before .before .entry-at .ensures .0 in
+    let to = c .before .before .entry-at2 .ensures .0 in
+    let e = covered-read (now (a .detail)) (now (a .overview)) (now (a .map)) (loop .i) w from to (c .before .covered-arrow .ensures) (c .if1 .left) in
+    (omega arith, below-more _ (loop .i) (loop .inv .1) e)
+
+accepted-requires : tie.Need-accepted-requires Inv-loop μ-loop
+accepted-requires c κs = tt
+
+returns-2 : tie.Need-returns-2 Inv-loop μ-loop
+returns-2 c = c .accepted .ensures ∙ search-ended 23 (λ v l. c .before .before .loop .inv .1 v (omega arith))
+
+pub cover-refusal-spec : {M : Type 1} → statement M
+cover-refusal-spec =
+    tie.close
+    (tie.spec
+    Inv-loop
+    μ-loop
+    loop-holds
+    arrow-at-requires
+    entry-at-requires
+    entry-at-requires-2
+    covered-arrow-requires
+    cast-refused
+    refused-requires
+    returns
+    add-i
+    loop-less
+    loop-again
+    accepted-requires
+    returns-2)

@@ -1,0 +1,79 @@
+-- Invariant: every entry before d names an overview state.
+use mathlib.Core.Path.{_≡_, _∙_}
+use mathlib.Core.Bool.{false}
+use Prim.Native.Nat.{ℕ, _≤_, _<_, _-_}
+use native.Mathlib.Omega.{arith}
+use lib.Dec.{leb}
+use borrow.Author.Tests.{le-leb, lt-leb}
+use borrow.Author.Count.{below-none, below-more}
+use denote.Ref.{now}
+use Rattle.outcome.proofs.Search.{search-found, search-ended}
+use Rattle.detail.specs.Bytes.{entry}
+use Rattle.detail.proofs.entry_refusal.Statement.{statement}
+use Rattle.detail.proofs.entry_refusal.Tie as tie
+use Rattle.detail.proofs.entry_refusal.Reads as reads
+use Rattle.detail.proofs.entry_refusal.Lts as lts
+use Rattle.detail.proofs.entry_at.Reads as entry-at-reads
+use Rattle.outcome.proofs.accepted.Reads as accepted-reads
+use Rattle.outcome.proofs.refused.Reads as refused-reads
+
+abbrev Inv-loop : tie.InvT-loop
+Inv-loop map n k d₀ d = (d ≤ n) × ((v : ℕ) → v < d → leb k (entry map v) ≡ false)
+
+abbrev μ-loop : tie.MeasureT-loop
+μ-loop map n k d₀ d = n - d
+
+loop-holds : tie.Need-loop-holds Inv-loop μ-loop
+loop-holds c = (omega arith, below-none _)
+
+entry-at-requires : tie.Need-entry-at-requires Inv-loop μ-loop
+entry-at-requires c κs = omega arith
+
+cast-refused : tie.Need-cast-refused Inv-loop μ-loop
+cast-refused c = omega arith
+
+refused-requires : tie.Need-refused-requires Inv-loop μ-loop
+refused-requires c κs = tt
+
+returns : tie.Need-returns Inv-loop μ-loop
+returns c =
+    let a = c .before .before .before .before .before .before .args in
+    let loop = c .before .before .before .before .loop in
+    let e = le-leb (a .k) (entry (now (a .map)) (loop .d)) (omega (arith, c .before .if1 .taken, c .before .before .entry-at .ensures .0)) in
+    c .refused .ensures ∙ search-found 21 (record { inside = omega arith; offends = e; under = loop .inv .1 })
+
+add-d : tie.Need-add-d Inv-loop μ-loop
+add-d c = omega arith
+
+loop-less : tie.Need-loop-less Inv-loop μ-loop
+loop-less c = omega arith
+
+loop-again : tie.Need-loop-again Inv-loop μ-loop
+loop-again c =
+    let a = c .before .before .before .before .before .args in
+    let loop = c .before .before .before .loop in
+    let e = lt-leb (a .k) (entry (now (a .map)) (loop .d)) (omega (arith, c .if1 .left, c .before .entry-at .ensures .0)) in
+    (omega arith, below-more _ (loop .d) (loop .inv .1) e)
+
+accepted-requires : tie.Need-accepted-requires Inv-loop μ-loop
+accepted-requires c κs = tt
+
+returns-2 : tie.Need-returns-2 Inv-loop μ-loop
+returns-2 c = c .accepted .ensures ∙ search-ended 21 (λ v l. c .before .before .loop .inv .1 v (omega arith))
+
+pub entry-refusal-spec : {M : Type 1} → statement M
+entry-refusal-spec =
+    tie.close
+    (tie.spec
+    Inv-loop
+    μ-loop
+    loop-holds
+    entry-at-requires
+    cast-refused
+    refused-requires
+    returns
+    add-d
+    loop-less
+    loop-again
+    accepted-requires
+    returns-2)

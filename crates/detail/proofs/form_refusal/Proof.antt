@@ -1,0 +1,81 @@
+use Rattle.detail.proofs.Form.{form-refuses, form-passes, unheaded, formed}
+use mathlib.Core.Path.{_≡_, sym, ap, _∙_}
+use Prim.Native.Nat.{_+_, _*_}
+-- An answer for each condition of the row.
+use native.Mathlib.Omega.{arith}
+use denote.Ref.{now}
+use Rattle.head.proofs.Passed.{head-passed}
+use borrow.Author.Needs.{needs}
+use Rattle.detail.proofs.form_refusal.Statement.{statement}
+use Rattle.detail.proofs.form_refusal.Tie as tie
+use Rattle.detail.proofs.form_refusal.Reads as reads
+use Rattle.detail.proofs.form_refusal.Lts as lts
+use Rattle.head.proofs.head_refusal.Reads as head-refusal-reads
+use Rattle.outcome.proofs.accepted.Reads as accepted-reads
+use Rattle.outcome.proofs.refused.Reads as refused-reads
+use Rattle.words.proofs.be16.Reads as be16-reads
+
+head-refusal-requires : tie.Need-head-refusal-requires
+head-refusal-requires c κs = search needs
+
+refused-requires : tie.Need-refused-requires
+refused-requires c κs = search needs
+
+returns : tie.Need-returns
+returns c =
+    let wrong = unheaded _ (c .before .before .before .before .before .args .n) (c .before .before .before .head-refusal .ensures) (c .before .if1 .taken) in
+    form-refuses _ _ wrong (c .refused .ensures)
+
+be16-requires : tie.Need-be16-requires
+be16-requires c κs = omega (arith, head-passed 20 7 (now (c .before .before .before .before .args .map)) tt (c .before .before .head-refusal .ensures) (c .if1 .left))
+
+cast-count : tie.Need-cast-count
+cast-count c = search needs
+
+mul-if2 : tie.Need-mul-if2
+mul-if2 c = search needs
+
+add-if2 : tie.Need-add-if2
+add-if2 c = search needs
+
+refused-requires-2 : tie.Need-refused-requires-2
+refused-requires-2 c κs = search needs
+
+returns-2 : tie.Need-returns-2
+returns-2 c =
+    let e = ap (λ x. 7 + 2 * x) (sym (c .before .before .be16 .ensures .0)) in
+    form-refuses _ _ (λ f. c .before .if2 .taken (f .whole ∙ e)) (c .refused2 .ensures)
+
+refused-requires-3 : tie.Need-refused-requires-3
+refused-requires-3 c κs = search needs
+
+returns-3 : tie.Need-returns-3
+returns-3 c = form-refuses _ _ (λ f. c .before .if3 .taken (c .before .before .before .be16 .ensures .0 ∙ f .count)) (c .refused3 .ensures)
+
+accepted-requires : tie.Need-accepted-requires
+accepted-requires c κs = search needs
+
+returns-4 : tie.Need-returns-4
+returns-4 c =
+    let head = c .before .before .before .before .before .before .head-refusal .ensures in
+    let count = c .before .before .before .be16 .ensures .0 in
+    let n = c .before .before .before .before .before .before .before .before .args .n in
+    form-passes _ n (formed _ n head (c .before .before .before .before .if1 .left) count (c .before .before .if2 .left) (c .before .if3 .left)) (c .accepted .ensures)
+
+pub form-refusal-spec : {M : Type 1} → statement M
+form-refusal-spec =
+    tie.close
+    (tie.spec
+    head-refusal-requires
+    refused-requires
+    returns
+    be16-requires
+    cast-count
+    mul-if2
+    add-if2
+    refused-requires-2
+    returns-2
+    refused-requires-3
+    returns-3
+    accepted-requires
+    returns-4)

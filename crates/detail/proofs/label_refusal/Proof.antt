@@ -1,0 +1,99 @@
+-- Invariant: no labels before state d differ.
+use mathlib.Core.Path.{_≡_, _∙_}
+use mathlib.Core.Bool.{false, not}
+use Prim.Native.Nat.{ℕ, _≤_, _<_, _-_}
+use native.Mathlib.Omega.{arith}
+use lib.Dec.{eqb}
+use borrow.Author.Count.{below-none, below-more}
+use denote.Ref.{now}
+use Rattle.outcome.proofs.Search.{search-found, search-ended}
+use Rattle.chart.specs.Bytes.{labelWord}
+use Rattle.loops.proofs.Passed.{shaped}
+use Rattle.detail.specs.Bytes.{entry}
+use Rattle.detail.proofs.Tested.{labels-differ, labels-same}
+use Rattle.detail.proofs.label_refusal.Statement.{statement}
+use Rattle.detail.proofs.label_refusal.Tie as tie
+use Rattle.detail.proofs.label_refusal.Reads as reads
+use Rattle.detail.proofs.label_refusal.Lts as lts
+use Rattle.chart.proofs.label_word.Reads as label-word-reads
+use Rattle.detail.proofs.entry_at.Reads as entry-at-reads
+use Rattle.outcome.proofs.accepted.Reads as accepted-reads
+use Rattle.outcome.proofs.refused.Reads as refused-reads
+
+abbrev Inv-loop : tie.InvT-loop
+Inv-loop detail n m overview k l map d₀ d =
+    (d ≤ n) × ((v : ℕ) → v < d → not (eqb (labelWord detail v) (labelWord overview (entry map v))) ≡ false)
+
+abbrev μ-loop : tie.MeasureT-loop
+μ-loop detail n m overview k l map d₀ d = n - d
+
+loop-holds : tie.Need-loop-holds Inv-loop μ-loop
+loop-holds c = (omega arith, below-none _)
+
+label-word-requires : tie.Need-label-word-requires Inv-loop μ-loop
+label-word-requires c κs = omega (arith, shaped (c .before .before .before .before .before .pre .0) .whole)
+
+entry-at-requires : tie.Need-entry-at-requires Inv-loop μ-loop
+entry-at-requires c κs = omega (arith, c .before .before .before .before .before .before .pre .2 .whole)
+
+label-word-requires-2 : tie.Need-label-word-requires-2 Inv-loop μ-loop
+label-word-requires-2 c κs =
+    let start = c .before .before .before .before .before .before .before in
+    let inside = start .pre .2 .inside (c .before .before .before .loop .d) (c .before .before .loop-test .taken) in
+    omega (arith, shaped (start .pre .1) .whole, inside, c .entry-at .ensures .0)
+
+cast-refused : tie.Need-cast-refused Inv-loop μ-loop
+cast-refused c = omega (arith, shaped (c .before .before .before .before .before .before .before .before .before .pre .0) .few-states)
+
+refused-requires : tie.Need-refused-requires Inv-loop μ-loop
+refused-requires c κs = tt
+
+returns : tie.Need-returns Inv-loop μ-loop
+returns c =
+    let a = c .before .before .before .before .before .before .before .before .before .before .args in
+    let loop = c .before .before .before .before .before .before .loop in
+    let own = c .before .before .before .before .label-word .ensures .0 in
+    let is = c .before .before .before .entry-at .ensures .0 in
+    let other = c .before .before .label-word2 .ensures .0 in
+    let e = labels-differ (now (a .detail)) (now (a .overview)) (now (a .map)) (loop .d) own is other (c .before .if1 .taken) in
+    c .refused .ensures ∙ search-found 22 (record { inside = omega arith; offends = e; under = loop .inv .1 })
+
+add-d : tie.Need-add-d Inv-loop μ-loop
+add-d c = omega arith
+
+loop-less : tie.Need-loop-less Inv-loop μ-loop
+loop-less c = omega arith
+
+loop-again : tie.Need-loop-again Inv-loop μ-loop
+loop-again c =
+    let a = c .before .before .before .before .before .before .before .before .before .args in
+    let loop = c .before .before .before .before .before .loop in
+    let own = c .before .before .before .label-word .ensures .0 in
+    let is = c .before .before .entry-at .ensures .0 in
+    let e = labels-same (now (a .detail)) (now (a .overview)) (now (a .map)) (loop .d) own is (c .before .label-word2 .ensures .0) (c .if1 .left) in
+    (omega arith, below-more _ (loop .d) (loop .inv .1) e)
+
+accepted-requires : tie.Need-accepted-requires Inv-loop μ-loop
+accepted-requires c κs = tt
+
+returns-2 : tie.Need-returns-2 Inv-loop μ-loop
+returns-2 c = c .accepted .ensures ∙ search-ended 22 (λ v l. c .before .before .loop .inv .1 v (omega arith))
+
+pub label-refusal-spec : {M : Type 1} → statement M
+label-refusal-spec =
+    tie.close
+    (tie.spec
+    Inv-loop
+    μ-loop
+    loop-holds
+    label-word-requires
+    entry-at-requires
+    label-word-requires-2
+    cast-refused
+    refused-requires
+    returns
+    add-d
+    loop-less
+    loop-again
+    accepted-requires
+    returns-2)

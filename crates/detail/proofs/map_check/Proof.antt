@@ -1,0 +1,78 @@
+-- The detail's rows, the overview's, and those of the map.
+use native.Mathlib.Omega.{arith}
+use mathlib.Core.Path.{ap}
+use denote.Ref.{now}
+use Rattle.outcome.specs.declared.Outcome.{Outcome}
+use Rattle.outcome.proofs.First.{part-zero}
+use Rattle.loops.specs.Refusal.{acceptedTable}
+use Rattle.loops.proofs.Accepted.{chart-passed}
+use Rattle.detail.proofs.Chain.{accepted-number, lower-refuses, upper-refuses, map-next}
+use borrow.Author.Needs.{needs}
+use Rattle.detail.proofs.map_check.Statement.{statement}
+use Rattle.detail.proofs.map_check.Tie as tie
+use Rattle.detail.proofs.map_check.Reads as reads
+use Rattle.detail.proofs.map_check.Lts as lts
+use Rattle.detail.proofs.map_refusal.Reads as map-refusal-reads
+use Rattle.loops.proofs.accepted_refusal.Reads as accepted-refusal-reads
+use Rattle.outcome.proofs.refused.Reads as refused-reads
+
+accepted-refusal-requires : tie.Need-accepted-refusal-requires
+accepted-refusal-requires c κs = search needs
+
+returns : tie.Need-returns
+returns c =
+    let a = c .before .before .before .before .before .before .args in
+    let d = now (a .detail) in
+    let o = now (a .overview) in
+    let p = now (a .map) in
+    lower-refuses d o p (c .before .before .accepted-refusal .ensures) (c .if1 .taken)
+
+accepted-refusal-requires-2 : tie.Need-accepted-refusal-requires-2
+accepted-refusal-requires-2 c κs = search needs
+
+add-refused : tie.Need-add-refused
+add-refused c =
+    let o = now (c .before .before .before .before .before .before .before .before .before .before .args .overview) in
+    let e = ap (λ (x : Outcome). x .number) (c .before .before .before .accepted-refusal2 .ensures) in
+    omega (arith, e, accepted-number o)
+
+refused-requires : tie.Need-refused-requires
+refused-requires c κs = search needs
+
+returns-2 : tie.Need-returns-2
+returns-2 c =
+    let a = c .before .before .before .before .before .before .before .before .before .before .before .args in
+    let d = now (a .detail) in
+    let o = now (a .overview) in
+    let p = now (a .map) in
+    upper-refuses d o p (c .before .before .before .before .before .before .before .accepted-refusal .ensures) (c .before .before .before .before .before .if1 .left) (c .before .before .before .before .accepted-refusal2 .ensures) (c .before .before .if2 .taken) (c .refused .ensures)
+
+map-refusal-requires : tie.Need-map-refusal-requires
+map-refusal-requires c κs =
+    let a = c .before .before .before .before .before .before .before .before .before .args in
+    let d = now (a .detail) in
+    let o = now (a .overview) in
+    let lower = part-zero (acceptedTable d) (c .before .before .before .before .before .accepted-refusal .ensures) (c .before .before .before .if1 .left) in
+    let upper = part-zero (acceptedTable o) (c .before .before .accepted-refusal2 .ensures) (c .if2 .left) in
+    (chart-passed d lower, chart-passed o upper)
+
+returns-3 : tie.Need-returns-3
+returns-3 c =
+    let a = c .before .before .before .before .before .before .before .before .before .before .args in
+    let d = now (a .detail) in
+    let o = now (a .overview) in
+    let p = now (a .map) in
+    map-next d o p (c .before .before .before .before .before .before .accepted-refusal .ensures) (c .before .before .before .before .if1 .left) (c .before .before .before .accepted-refusal2 .ensures) (c .before .if2 .left) (c .map-refusal .ensures)
+
+pub map-check-spec : {M : Type 1} → statement M
+map-check-spec =
+    tie.close
+    (tie.spec
+    accepted-refusal-requires
+    returns
+    accepted-refusal-requires-2
+    add-refused
+    refused-requires
+    returns-2
+    map-refusal-requires
+    returns-3)

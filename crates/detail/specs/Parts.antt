@@ -1,0 +1,33 @@
+-- The rows of the map's table as the functions test them, and what those functions ask of the bytes. The detail chart d has
+-- n states and m arrows, the overview o has k states and l arrows.
+use mathlib.Core.Bool.{not}
+use mathlib.Core.List.{List}
+use Prim.Native.Nat.{ℕ, _+_, _*_, _≤_, _<_}
+use lib.ListN.{length}
+use lib.Dec.{eqb, leb}
+use Rattle.outcome.specs.Refusal.{Row, refuse, whole, lowest}
+use Rattle.chart.specs.Bytes.{labelWord}
+use Rattle.detail.specs.Bytes.{entry}
+use Rattle.detail.specs.Covered.{coveredAt}
+use Rattle.detail.specs.Refusals.{noMap}
+
+-- row 20
+abbrev pub formRow : List ℕ → ℕ → Row
+formRow p n = refuse 20 (whole (noMap p n))
+
+-- row 21
+abbrev pub entryRow : List ℕ → ℕ → ℕ → Row
+entryRow p n k = refuse 21 (lowest (λ v. leb k (entry p v)) n)
+
+-- row 22
+abbrev pub labelRow : List ℕ → List ℕ → List ℕ → ℕ → Row
+labelRow d o p n = refuse 22 (lowest (λ v. not (eqb (labelWord d v) (labelWord o (entry p v)))) n)
+
+-- row 23
+abbrev pub coverRow : List ℕ → List ℕ → List ℕ → ℕ → Row
+coverRow d o p m = refuse 23 (lowest (λ i. not (coveredAt d o p i)) m)
+
+-- the map has an entry for each of n detail states, and each names one of k overview states
+pub record Mapped (p : List ℕ) (n k : ℕ) : Type 0 where
+  pub whole : 7 + 2 * n ≤ length p
+  pub inside : (v : ℕ) → v < n → entry p v < k

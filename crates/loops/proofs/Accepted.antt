@@ -1,0 +1,145 @@
+-- "A chart is accepted exactly if it passes checks 1 to 9 and 19": the table's success is the format and the meaning.
+use mathlib.Core.Path.{_≡_, refl, sym, ap, _∙_}
+use mathlib.Core.Logic.{_↔_}
+use mathlib.Core.Bool.{false≢true}
+use mathlib.Core.List.{List, [], _∷_}
+use mathlib.Core.Option.{none}
+use Prim.Native.Nat.{ℕ, _+_, _≤_, _<_}
+use native.Mathlib.Omega.{arith}
+use lib.Dec.{ltb}
+use borrow.Author.Tests.{eqb-false}
+use Rattle.truth.proofs.Truth.{or-false, no-test}
+use Rattle.tctl.specs.Run.{Run}
+use Rattle.tctl.specs.Accepted.{Accepted, OnZeroLoop}
+use Rattle.tctl.proofs.Run.{Passes}
+use Rattle.tctl.proofs.Passing.{passes}
+use Rattle.model.specs.ZeroLoop.{onZeroLoop}
+use Rattle.model.proofs.ZeroLoop.{on-zero-loop-iff}
+use Rattle.outcome.specs.declared.Outcome.{Outcome}
+use Rattle.outcome.specs.Refusal.{success, lowest}
+use Rattle.outcome.proofs.First.{Unmet, end, Numbered, zero-iff, success-iff}
+use Rattle.outcome.proofs.Unmet.{unmet-more, unmet-row, unmet-append-iff}
+use Rattle.outcome.proofs.Lowest.{none-below, below-none}
+use Rattle.head.proofs.Passed.{Headed}
+use Rattle.chart.specs.Bytes.{stateCount, arrowCount, arrowPlace, arrowWords, chartOf}
+use Rattle.chart.specs.Shape.{Shape}
+use Rattle.chart.specs.Refusals.{chartTable, chartRefusal}
+use Rattle.chart.proofs.Accepted.{Checked, checked, chart-accepted}
+use Rattle.chart.proofs.Chart.{states-of}
+use Rattle.chart.proofs.Converse.{checked-unmet, accepted-checked}
+use Rattle.loops.specs.Refusal.{loopRow, acceptedTable, acceptedRefusal}
+use Rattle.loops.specs.Accepted.{Octets, ChartFormat, AcceptedChart}
+use Rattle.loops.specs.Parts.{Passed}
+use Rattle.loops.proofs.Passed.{drawn}
+use Rattle.loops.proofs.Loops.{chain-below}
+
+module _ (s : List ℕ) where
+  pub accepted-numbered : Numbered (acceptedTable s)
+  unfolding acceptedTable chartTable loopRow
+  accepted-numbered = tt
+
+  -- no row is met just where none of rows 1 to 9 is, and row 19 is not
+  parts-iff : Unmet (acceptedTable s) ↔ (Unmet (chartTable s) × Unmet (loopRow s ∷ []))
+  unfolding acceptedTable
+  parts-iff = unmet-append-iff (chartTable s) (loopRow s ∷ [])
+
+  -- ── From the table ──
+
+  module _ (z : acceptedRefusal s .number ≡ 0) where
+    parts : Unmet (chartTable s) × Unmet (loopRow s ∷ [])
+    parts = parts-iff .0 (zero-iff (acceptedTable s) accepted-numbered .0 z)
+
+    pub chart-passed : chartRefusal s .number ≡ 0
+    unfolding chartTable
+    chart-passed = zero-iff (chartTable s) tt .1 (parts .0)
+
+    passed : Passed s (stateCount s) (arrowCount s)
+    passed = record { states = refl; arrows = refl; unrefused = chart-passed }
+
+    ok : Checked s
+    ok = checked s chart-passed
+
+    no-loops : lowest (onZeroLoop (chartOf s)) (stateCount s) ≡ none
+    unfolding loopRow
+    no-loops = unmet-row (parts .1) .0
+
+    -- A state on a loop is the start of an arrow, hence one of the states that row 19 asks.
+    timed : (v : ℕ) → OnZeroLoop (chartOf s) v → ⊥
+    timed v c =
+        let G = chartOf s in
+        let l : v < stateCount s = omega (arith, chain-below (drawn passed) c, states-of s) in
+        false≢true (sym (none-below (onZeroLoop G) (stateCount s) no-loops v l) ∙ on-zero-loop-iff G v .1 c)
+
+    -- nothing is asked of the bytes for the meaning
+    pub accepted-only : Accepted (chartOf s)
+    accepted-only = chart-accepted s ok timed
+
+    pub accepted-passes : (v : ℕ) → v < stateCount s → (r : Run (chartOf s) v) → Passes r
+    accepted-passes v l r = passes accepted-only v (omega (arith, states-of s)) r
+
+    -- a word of two bytes is at most 65,535, and row 8 says that the fewest is not that
+    fewest : Octets s → (i : ℕ) → i < arrowCount s → arrowWords s i .fewest ≤ 65534
+    unfolding arrowWords
+    fewest o i l =
+        let w = arrowWords s i in
+        let at = arrowPlace s i + 4 in
+        let h = eqb-false (w .fewest) 65535 (or-false (ltb (w .most) (w .fewest)) _ (ok .slots i l) .1) in
+        omega (arith, h, o at, o (at + 1))
+
+    format : Octets s → ChartFormat s
+    format o =
+        let h = ok .head in
+        let k = ok .shape in
+        record {
+          head = h .enough;
+          version-one = h .version-one;
+          stated = h .stated;
+          some-states = k .some-states;
+          few-states = k .few-states;
+          some-arrows = k .some-arrows;
+          few-arrows = k .few-arrows;
+          whole = k .whole;
+          fewest = fewest o;
+        }
+
+  -- ── Back to the table ──
+
+  module _ (f : ChartFormat s) where
+    headed : Headed 9 s
+    headed = record { enough = f .head; version-one = f .version-one; stated = f .stated }
+
+    shaped : Shape s (stateCount s) (arrowCount s)
+    shaped =
+        record {
+          states = refl;
+          arrows = refl;
+          some-states = f .some-states;
+          few-states = f .few-states;
+          some-arrows = f .some-arrows;
+          few-arrows = f .few-arrows;
+          whole = f .whole;
+        }
+
+  -- row 19's test decides OnZeroLoop, and no state is on a loop
+  loop-unmet : Accepted (chartOf s) → Unmet (loopRow s ∷ [])
+  unfolding loopRow
+  loop-unmet acc =
+      let G = chartOf s in
+      let e = below-none (onZeroLoop G) (stateCount s) (λ v l. no-test (on-zero-loop-iff G v) (acc .timed v)) in
+      unmet-more e end
+
+  accepted-unmet : AcceptedChart s → Unmet (acceptedTable s)
+  accepted-unmet acc =
+      let f = acc .format in
+      let ok = accepted-checked s (acc .meaning) (headed f) (shaped f) (f .fewest) in
+      parts-iff .1 (checked-unmet s ok, loop-unmet (acc .meaning))
+
+  -- Each row is false just where its part of the format, or of the meaning, is true. Bytes are asked for row 8 alone: a
+  -- fewest that is not 65,535 is then at most 65,534.
+  pub accepted-iff : Octets s → (acceptedRefusal s ≡ success) ↔ AcceptedChart s
+  accepted-iff o = (there, λ acc. success-iff (acceptedTable s) accepted-numbered .1 (accepted-unmet acc))
+    where
+      there : acceptedRefusal s ≡ success → AcceptedChart s
+      there e =
+          let z = ap (λ (r : Outcome). r .number) e in
+          record { format = format z o; meaning = accepted-only z }
