@@ -1,23 +1,23 @@
 -- The table of map check by parts: the detail's rows, the overview's with their numbers 40 higher, and the map's.
 use mathlib.Core.Path.{_≡_, refl, ap, _∙_}
 use mathlib.Core.List.{List, [], _∷_, _++_}
-use Prim.Native.Nat.{ℕ, _+_, _*_, _≤_, _<_}
+use Prim.Native.Nat.{ℕ, _+_, _*_, _≤_}
 use native.Mathlib.Omega.{arith}
 use lib.ListN.{length}
 use lib.Dec.{leb}
 use borrow.Author.Tests.{leb-false}
 use Rattle.outcome.specs.declared.Outcome.{Outcome}
-use Rattle.outcome.specs.Refusal.{Row, refusal, first, shifted, whole, lowest}
+use Rattle.outcome.specs.Refusal.{Row, refusal, first, shifted, whole}
 use Rattle.outcome.proofs.Lowest.{none-below}
 use Rattle.outcome.proofs.First.{part-zero, part-refuses, part-passes, unmet-at}
-use Rattle.outcome.proofs.Shift.{shift-numbered, shift-passes, shift-refuses}
+use Rattle.outcome.proofs.Shift.{shift-passes, shift-refuses}
 use Rattle.outcome.proofs.Bounded.{number-le}
 use Rattle.chart.specs.Bytes.{stateCount, arrowCount}
 use Rattle.chart.specs.Refusals.{chartTable}
 use Rattle.loops.specs.Refusal.{loopRow, acceptedTable, acceptedRefusal}
 use Rattle.loops.proofs.Accepted.{accepted-numbered}
 use Rattle.detail.specs.Bytes.{entry}
-use Rattle.detail.specs.Refusals.{noMap, mapTable, mapCheckTable, mapRefusal}
+use Rattle.detail.specs.Refusals.{mapTable, mapCheckTable, mapRefusal}
 use Rattle.detail.specs.Parts.{formRow, entryRow, labelRow, coverRow, Mapped}
 use Rattle.detail.proofs.Format.{format-iff}
 

@@ -1,13 +1,12 @@
 -- What single tests say of an offender: of a label word, and of an arrow.
-use mathlib.Core.Path.{_≡_, sym, subst, ap, _∙_}
+use mathlib.Core.Path.{_≡_, sym, ap, _∙_}
 use mathlib.Core.Bool.{Bool, true, false, not}
 use mathlib.Core.List.{List}
 use Prim.Native.Nat.{ℕ, _<_}
-use native.Mathlib.Omega.{arith}
 use lib.Dec.{eqb}
 use borrow.Author.Tests.{eq-eqb, ne-eqb}
 use Rattle.tctl.specs.Chart.{Arrow}
-use Rattle.outcome.specs.Refusal.{found, lowest}
+use Rattle.outcome.specs.Refusal.{found}
 use Rattle.outcome.proofs.Lowest.{below-none, offender-found}
 use Rattle.chart.specs.declared.ArrowWords.{ArrowWords}
 use Rattle.chart.specs.Bytes.{labelWord, arrowCount, arrowWords, arrowOf}

@@ -1,12 +1,12 @@
 -- What passing checks 1 to 9 leaves for the climb.
-use mathlib.Core.Path.{_≡_, sym, subst, subst₂}
+use mathlib.Core.Path.{_≡_, sym, subst₂}
 use mathlib.Core.List.{List}
 use Prim.Native.Nat.{ℕ, _<_}
 use native.Mathlib.Omega.{arith}
 use Rattle.tctl.specs.Chart.{states}
 use Rattle.tctl.proofs.Drawn.{Drawn}
-use Rattle.chart.specs.Bytes.{stateCount, arrowCount, arrowWords, chartOf}
-use Rattle.chart.specs.Shape.{Shape, Inside}
+use Rattle.chart.specs.Bytes.{arrowWords, chartOf}
+use Rattle.chart.specs.Shape.{Shape}
 use Rattle.chart.proofs.Accepted.{Checked, checked, chart-named, chart-slots}
 use Rattle.chart.proofs.Chart.{states-of}
 use Rattle.loops.specs.Parts.{Passed}

@@ -2,7 +2,6 @@
 use mathlib.Core.Path.{_≡_, sym, subst, _∙_}
 use mathlib.Core.Bool.{false}
 use mathlib.Core.List.{List, [], _∷_}
-use mathlib.Core.Option.{none}
 use Prim.Native.Nat.{ℕ, _<_}
 use Rattle.model.specs.ZeroLoop.{onZeroLoop}
 use Rattle.outcome.specs.declared.Outcome.{Outcome}

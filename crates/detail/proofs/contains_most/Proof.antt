@@ -3,8 +3,6 @@ use borrow.Author.Tests.{eq-eqb}
 use Rattle.detail.proofs.Words.{contains-word}
 use Rattle.detail.proofs.contains_most.Statement.{statement}
 use Rattle.detail.proofs.contains_most.Tie as tie
-use Rattle.detail.proofs.contains_most.Reads as reads
-use Rattle.detail.proofs.contains_most.Lts as lts
 
 returns : tie.Need-returns
 returns c = simp (eq-eqb (c .before .args .by) 65535 (c .if1 .taken))

@@ -13,13 +13,6 @@ use Rattle.detail.specs.Covered.{coveredAt}
 use Rattle.detail.proofs.Tested.{covered-read}
 use Rattle.detail.proofs.cover_refusal.Statement.{statement}
 use Rattle.detail.proofs.cover_refusal.Tie as tie
-use Rattle.detail.proofs.cover_refusal.Reads as reads
-use Rattle.detail.proofs.cover_refusal.Lts as lts
-use Rattle.chart.proofs.arrow_at.Reads as arrow-at-reads
-use Rattle.detail.proofs.covered_arrow.Reads as covered-arrow-reads
-use Rattle.detail.proofs.entry_at.Reads as entry-at-reads
-use Rattle.outcome.proofs.accepted.Reads as accepted-reads
-use Rattle.outcome.proofs.refused.Reads as refused-reads
 
 abbrev Inv-loop : tie.InvT-loop
 Inv-loop detail n m overview k l map i₀ i = (i ≤ m) × ((j : ℕ) → j < i → not (coveredAt detail overview map j) ≡ false)

@@ -12,10 +12,6 @@ use Rattle.detail.specs.Covered.{covers}
 use Rattle.detail.proofs.Tested.{covers-read, covered-found, covered-not}
 use Rattle.detail.proofs.covered_arrow.Statement.{statement}
 use Rattle.detail.proofs.covered_arrow.Tie as tie
-use Rattle.detail.proofs.covered_arrow.Reads as reads
-use Rattle.detail.proofs.covered_arrow.Lts as lts
-use Rattle.chart.proofs.arrow_at.Reads as arrow-at-reads
-use Rattle.detail.proofs.covers_arrow.Reads as covers-arrow-reads
 
 abbrev Inv-loop : tie.InvT-loop
 Inv-loop overview k l from to a j₀ j =

@@ -3,9 +3,6 @@ use borrow.Author.Tests.{eq-eqb, ne-eqb, le-leb, lt-leb}
 use borrow.Author.Needs.{needs}
 use Rattle.detail.proofs.covers_arrow.Statement.{statement}
 use Rattle.detail.proofs.covers_arrow.Tie as tie
-use Rattle.detail.proofs.covers_arrow.Reads as reads
-use Rattle.detail.proofs.covers_arrow.Lts as lts
-use Rattle.detail.proofs.contains_most.Reads as contains-most-reads
 
 returns : tie.Need-returns
 returns c = simp (ne-eqb _ _ (c .if1 .taken))

@@ -11,11 +11,6 @@ use Rattle.outcome.proofs.Search.{search-found, search-ended}
 use Rattle.detail.specs.Bytes.{entry}
 use Rattle.detail.proofs.entry_refusal.Statement.{statement}
 use Rattle.detail.proofs.entry_refusal.Tie as tie
-use Rattle.detail.proofs.entry_refusal.Reads as reads
-use Rattle.detail.proofs.entry_refusal.Lts as lts
-use Rattle.detail.proofs.entry_at.Reads as entry-at-reads
-use Rattle.outcome.proofs.accepted.Reads as accepted-reads
-use Rattle.outcome.proofs.refused.Reads as refused-reads
 
 abbrev Inv-loop : tie.InvT-loop
 Inv-loop map n k d₀ d = (d ≤ n) × ((v : ℕ) → v < d → leb k (entry map v) ≡ false)

@@ -1,19 +1,14 @@
-use Rattle.detail.proofs.Form.{form-refuses, form-passes, unheaded, formed}
-use mathlib.Core.Path.{_≡_, sym, ap, _∙_}
+use mathlib.Core.Path.{sym, ap, _∙_}
 use Prim.Native.Nat.{_+_, _*_}
--- An answer for each condition of the row.
 use native.Mathlib.Omega.{arith}
+use borrow.Author.Needs.{needs}
 use denote.Ref.{now}
 use Rattle.head.proofs.Passed.{head-passed}
-use borrow.Author.Needs.{needs}
+use Rattle.detail.proofs.Form.{form-refuses, form-passes, unheaded, formed}
 use Rattle.detail.proofs.form_refusal.Statement.{statement}
 use Rattle.detail.proofs.form_refusal.Tie as tie
-use Rattle.detail.proofs.form_refusal.Reads as reads
-use Rattle.detail.proofs.form_refusal.Lts as lts
-use Rattle.head.proofs.head_refusal.Reads as head-refusal-reads
-use Rattle.outcome.proofs.accepted.Reads as accepted-reads
-use Rattle.outcome.proofs.refused.Reads as refused-reads
-use Rattle.words.proofs.be16.Reads as be16-reads
+
+-- An answer for each condition of the row.
 
 head-refusal-requires : tie.Need-head-refusal-requires
 head-refusal-requires c κs = search needs

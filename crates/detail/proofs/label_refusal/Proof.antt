@@ -13,12 +13,6 @@ use Rattle.detail.specs.Bytes.{entry}
 use Rattle.detail.proofs.Tested.{labels-differ, labels-same}
 use Rattle.detail.proofs.label_refusal.Statement.{statement}
 use Rattle.detail.proofs.label_refusal.Tie as tie
-use Rattle.detail.proofs.label_refusal.Reads as reads
-use Rattle.detail.proofs.label_refusal.Lts as lts
-use Rattle.chart.proofs.label_word.Reads as label-word-reads
-use Rattle.detail.proofs.entry_at.Reads as entry-at-reads
-use Rattle.outcome.proofs.accepted.Reads as accepted-reads
-use Rattle.outcome.proofs.refused.Reads as refused-reads
 
 abbrev Inv-loop : tie.InvT-loop
 Inv-loop detail n m overview k l map d₀ d =

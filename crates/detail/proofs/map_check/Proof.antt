@@ -1,20 +1,15 @@
 -- The detail's rows, the overview's, and those of the map.
-use native.Mathlib.Omega.{arith}
 use mathlib.Core.Path.{ap}
+use native.Mathlib.Omega.{arith}
+use borrow.Author.Needs.{needs}
 use denote.Ref.{now}
 use Rattle.outcome.specs.declared.Outcome.{Outcome}
 use Rattle.outcome.proofs.First.{part-zero}
 use Rattle.loops.specs.Refusal.{acceptedTable}
 use Rattle.loops.proofs.Accepted.{chart-passed}
 use Rattle.detail.proofs.Chain.{accepted-number, lower-refuses, upper-refuses, map-next}
-use borrow.Author.Needs.{needs}
 use Rattle.detail.proofs.map_check.Statement.{statement}
 use Rattle.detail.proofs.map_check.Tie as tie
-use Rattle.detail.proofs.map_check.Reads as reads
-use Rattle.detail.proofs.map_check.Lts as lts
-use Rattle.detail.proofs.map_refusal.Reads as map-refusal-reads
-use Rattle.loops.proofs.accepted_refusal.Reads as accepted-refusal-reads
-use Rattle.outcome.proofs.refused.Reads as refused-reads
 
 accepted-refusal-requires : tie.Need-accepted-refusal-requires
 accepted-refusal-requires c κs = search needs

@@ -1,19 +1,11 @@
 -- The four rows in order: what the earlier ones leave serves the later.
 use native.Mathlib.Omega.{arith}
+use borrow.Author.Needs.{needs}
 use denote.Ref.{now}
 use Rattle.chart.proofs.Accepted.{checked}
 use Rattle.detail.proofs.Chain.{form-stops, map-whole, entries-stop, mapped, labels-stop, cover-last}
-use borrow.Author.Needs.{needs}
 use Rattle.detail.proofs.map_refusal.Statement.{statement}
 use Rattle.detail.proofs.map_refusal.Tie as tie
-use Rattle.detail.proofs.map_refusal.Reads as reads
-use Rattle.detail.proofs.map_refusal.Lts as lts
-use Rattle.chart.proofs.arrow_count.Reads as arrow-count-reads
-use Rattle.chart.proofs.state_count.Reads as state-count-reads
-use Rattle.detail.proofs.cover_refusal.Reads as cover-refusal-reads
-use Rattle.detail.proofs.entry_refusal.Reads as entry-refusal-reads
-use Rattle.detail.proofs.form_refusal.Reads as form-refusal-reads
-use Rattle.detail.proofs.label_refusal.Reads as label-refusal-reads
 
 state-count-requires : tie.Need-state-count-requires
 state-count-requires c κs = checked _ (c .before .before .before .pre .0) .head .enough

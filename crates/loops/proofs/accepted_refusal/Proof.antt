@@ -1,17 +1,10 @@
 -- Checks 1 to 9, then row 19 on the first n numbers of a local array.
-use Rattle.loops.proofs.Chain.{prefix-size, chart-refuses, chart-whole, chart-small, chart-passed, loop-next}
 use mathlib.Core.Path.{sym}
 use native.Mathlib.Omega.{arith}
-use denote.Ref.{now}
 use borrow.Author.Needs.{needs}
+use Rattle.loops.proofs.Chain.{prefix-size, chart-refuses, chart-whole, chart-small, chart-passed, loop-next}
 use Rattle.loops.proofs.accepted_refusal.Statement.{statement}
 use Rattle.loops.proofs.accepted_refusal.Tie as tie
-use Rattle.loops.proofs.accepted_refusal.Reads as reads
-use Rattle.loops.proofs.accepted_refusal.Lts as lts
-use Rattle.chart.proofs.arrow_count.Reads as arrow-count-reads
-use Rattle.chart.proofs.refusals.chart_refusal.Reads as chart-refusal-reads
-use Rattle.chart.proofs.state_count.Reads as state-count-reads
-use Rattle.loops.proofs.loop_refusal.Reads as loop-refusal-reads
 
 chart-refusal-requires : tie.Need-chart-refusal-requires
 chart-refusal-requires c κs = search needs

@@ -1,21 +1,13 @@
 -- Arrow i raises nothing if its fewest is not 0, and is offered to `raise` if it is.
-use mathlib.Core.Path.{_≡_, sym, ap, _∙_, subst₂}
-use Prim.Native.Nat.{_<_}
+use mathlib.Core.Path.{ap}
 use native.Mathlib.Omega.{arith}
-use denote.Ref.{now}
+use borrow.Author.Needs.{needs}
 use Rattle.chart.specs.declared.ArrowWords.{ArrowWords}
-use Rattle.chart.specs.Bytes.{arrowWords}
 use Rattle.chart.proofs.Arrow.{arrow-inside}
-use Rattle.loops.specs.Parts.{Raised}
 use Rattle.loops.proofs.Passed.{shaped, arrow-ends}
 use Rattle.loops.proofs.Climbed.{climbed-not, climbed-one}
-use borrow.Author.Needs.{needs}
 use Rattle.loops.proofs.climb_arrow.Statement.{statement}
 use Rattle.loops.proofs.climb_arrow.Tie as tie
-use Rattle.loops.proofs.climb_arrow.Reads as reads
-use Rattle.loops.proofs.climb_arrow.Lts as lts
-use Rattle.chart.proofs.arrow_at.Reads as arrow-at-reads
-use Rattle.loops.proofs.raise.Reads as raise-reads
 
 arrow-at-requires : tie.Need-arrow-at-requires
 arrow-at-requires c κs = arrow-inside (shaped (c .before .before .pre .0)) (c .before .before .pre .1)

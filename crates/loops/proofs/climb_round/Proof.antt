@@ -1,17 +1,15 @@
-use Rattle.loops.proofs.Climb.{climb-size, climb-numbers}
--- Invariant: the first i arrows were offered.
 use mathlib.Core.Path.{subst}
 use Prim.Native.Nat.{ℕ, _≤_, _-_}
 use native.Mathlib.Omega.{arith}
 use denote.Ref.{now}
 use Rattle.loops.specs.Parts.{Climbed}
+use Rattle.loops.proofs.Climb.{climb-size, climb-numbers}
 use Rattle.loops.proofs.Passed.{shaped}
 use Rattle.loops.proofs.Climbed.{climbed-none, climbed-more}
 use Rattle.loops.proofs.climb_round.Statement.{statement}
 use Rattle.loops.proofs.climb_round.Tie as tie
-use Rattle.loops.proofs.climb_round.Reads as reads
-use Rattle.loops.proofs.climb_round.Lts as lts
-use Rattle.loops.proofs.climb_arrow.Reads as climb-arrow-reads
+
+-- Invariant: the first i arrows were offered.
 
 abbrev Inv-loop : tie.InvT-loop
 Inv-loop chart n m cap numbers₀ raised₀ i₀ numbers raised i = (i ≤ m) × Climbed chart cap 0 i raised numbers₀ numbers

@@ -1,16 +1,14 @@
-use lib.ListN.{length, length-set}
-use borrow.Author.Count.{below-none}
-use Rattle.loops.proofs.Filled.{filled-more}
--- Invariant: the numbers before i are v.
 use mathlib.Core.Path.{_≡_, refl}
 use Prim.Native.Nat.{ℕ, _≤_, _<_, _-_}
 use native.Mathlib.Omega.{arith}
-use lib.ListN.{length}
+use lib.ListN.{length, length-set}
+use borrow.Author.Count.{below-none}
 use Rattle.model.specs.Engine.{num}
+use Rattle.loops.proofs.Filled.{filled-more}
 use Rattle.loops.proofs.fill.Statement.{statement}
 use Rattle.loops.proofs.fill.Tie as tie
-use Rattle.loops.proofs.fill.Reads as reads
-use Rattle.loops.proofs.fill.Lts as lts
+
+-- Invariant: the numbers before i are v.
 
 abbrev Inv-loop : tie.InvT-loop
 Inv-loop numbers₀ v i₀ numbers i = (i ≤ length numbers₀) × (length numbers ≡ length numbers₀) × ((s : ℕ) → s < i → num numbers s ≡ v)

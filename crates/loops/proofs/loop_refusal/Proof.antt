@@ -1,14 +1,9 @@
 -- Without a loop no state is on one.
-use Rattle.loops.proofs.Row.{row-not-found}
 use mathlib.Core.Path.{sym, _∙_}
 use borrow.Author.Needs.{needs}
+use Rattle.loops.proofs.Row.{row-not-found}
 use Rattle.loops.proofs.loop_refusal.Statement.{statement}
 use Rattle.loops.proofs.loop_refusal.Tie as tie
-use Rattle.loops.proofs.loop_refusal.Reads as reads
-use Rattle.loops.proofs.loop_refusal.Lts as lts
-use Rattle.loops.proofs.lowest_on_loop.Reads as lowest-on-loop-reads
-use Rattle.loops.proofs.some_loop.Reads as some-loop-reads
-use Rattle.outcome.proofs.accepted.Reads as accepted-reads
 
 some-loop-requires : tie.Need-some-loop-requires
 some-loop-requires c κs = search needs

@@ -1,22 +1,17 @@
-use Rattle.loops.proofs.Row.{row-met, row-unmet}
 use mathlib.Core.Path.{_≡_, refl, sym, _∙_}
--- Invariant: no state before g is on a loop.
 use mathlib.Core.Bool.{false}
 use Prim.Native.Nat.{ℕ, _≤_, _<_, _-_}
 use native.Mathlib.Omega.{arith}
 use lib.ListN.{length}
 use borrow.Author.Count.{below-none, below-more}
-use denote.Ref.{now}
 use Rattle.model.specs.ZeroLoop.{onZeroLoop}
 use Rattle.chart.specs.Bytes.{chartOf}
+use Rattle.loops.proofs.Row.{row-met, row-unmet}
 use Rattle.loops.proofs.Passed.{shaped}
 use Rattle.loops.proofs.lowest_on_loop.Statement.{statement}
 use Rattle.loops.proofs.lowest_on_loop.Tie as tie
-use Rattle.loops.proofs.lowest_on_loop.Reads as reads
-use Rattle.loops.proofs.lowest_on_loop.Lts as lts
-use Rattle.loops.proofs.on_loop.Reads as on-loop-reads
-use Rattle.outcome.proofs.accepted.Reads as accepted-reads
-use Rattle.outcome.proofs.refused.Reads as refused-reads
+
+-- Invariant: no state before g is on a loop.
 
 abbrev Inv-loop : tie.InvT-loop
 Inv-loop chart n m numbers₀ g₀ numbers g = (g ≤ n) × (length numbers ≡ length numbers₀) × ((v : ℕ) → v < g → onZeroLoop (chartOf chart) v ≡ false)

@@ -1,17 +1,13 @@
 -- The numbers are settled from 1 at g alone; g has more than 1 just if it is on a loop.
-use mathlib.Core.Path.{_≡_, _∙_}
+use mathlib.Core.Path.{_∙_}
 use native.Mathlib.Omega.{arith}
-use lib.ListN.{length, length-set}
+use lib.ListN.{length-set}
+use borrow.Author.Needs.{needs}
 use denote.Ref.{now}
 use Rattle.loops.proofs.Climb.{climb-size}
 use Rattle.loops.proofs.Decided.{lone-numbers, lone-answer}
-use borrow.Author.Needs.{needs}
 use Rattle.loops.proofs.on_loop.Statement.{statement}
 use Rattle.loops.proofs.on_loop.Tie as tie
-use Rattle.loops.proofs.on_loop.Reads as reads
-use Rattle.loops.proofs.on_loop.Lts as lts
-use Rattle.loops.proofs.fill.Reads as fill-reads
-use Rattle.loops.proofs.settle.Reads as settle-reads
 
 fill-requires : tie.Need-fill-requires
 fill-requires c κs = search needs

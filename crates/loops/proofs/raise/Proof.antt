@@ -1,11 +1,9 @@
 -- An answer for each return: no number raised, or one.
 use native.Mathlib.Omega.{arith}
-use Rattle.loops.proofs.Raised.{rests, rises}
 use borrow.Author.Needs.{needs}
+use Rattle.loops.proofs.Raised.{rests, rises}
 use Rattle.loops.proofs.raise.Statement.{statement}
 use Rattle.loops.proofs.raise.Tie as tie
-use Rattle.loops.proofs.raise.Reads as reads
-use Rattle.loops.proofs.raise.Lts as lts
 
 mul-low : tie.Need-mul-low
 mul-low c = search needs

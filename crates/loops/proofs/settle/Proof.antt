@@ -1,16 +1,12 @@
 use native.Mathlib.Omega.{arith}
--- Invariant: the numbers are those that rounds made of the first. Each further round leaves less room under the cap.
-use mathlib.Core.Path.{subst}
 use Rattle.chart.specs.Bytes.{chartOf}
 use Rattle.loops.specs.Climb.{Climbs, same, room}
-use Rattle.loops.specs.Parts.{Settled}
 use Rattle.loops.proofs.Climb.{climb-trans, climb-size, climb-numbers}
 use Rattle.loops.proofs.Climbed.{climbed-quiet}
 use Rattle.loops.proofs.settle.Statement.{statement}
 use Rattle.loops.proofs.settle.Tie as tie
-use Rattle.loops.proofs.settle.Reads as reads
-use Rattle.loops.proofs.settle.Lts as lts
-use Rattle.loops.proofs.climb_round.Reads as climb-round-reads
+
+-- Invariant: the numbers are those that rounds made of the first. Each further round leaves less room under the cap.
 
 abbrev Inv-loop : tie.InvT-loop
 Inv-loop chart n m cap numbers₀ numbers = Climbs (chartOf chart) cap numbers₀ numbers

@@ -1,20 +1,14 @@
 -- Invariant: no number before s is the cap.
 use mathlib.Core.Path.{_≡_, _∙_}
-use Prim.Native.Nat.{ℕ, _+_, _≤_, _<_, _-_}
+use Prim.Native.Nat.{ℕ, _≤_, _<_, _-_}
 use native.Mathlib.Omega.{arith}
-use lib.ListN.{length}
 use borrow.Author.Count.{below-none, below-more}
-use denote.Ref.{now}
 use Rattle.model.specs.Engine.{num}
 use Rattle.loops.proofs.Climb.{climb-size}
 use Rattle.loops.proofs.Passed.{shaped}
 use Rattle.loops.proofs.Decided.{ones-numbers, loop-found, none-found}
 use Rattle.loops.proofs.some_loop.Statement.{statement}
 use Rattle.loops.proofs.some_loop.Tie as tie
-use Rattle.loops.proofs.some_loop.Reads as reads
-use Rattle.loops.proofs.some_loop.Lts as lts
-use Rattle.loops.proofs.fill.Reads as fill-reads
-use Rattle.loops.proofs.settle.Reads as settle-reads
 
 abbrev Inv-loop : tie.InvT-loop
 Inv-loop chart n m numbers cap s₀ s = (s ≤ n) × ((v : ℕ) → v < s → ¬ (num numbers v ≡ cap))
