@@ -2,61 +2,49 @@
 -- it into Holds for every listed 1 and its refutation for every listed 0.
 use mathlib.Core.Path.{_≡_, refl, sym, ap, subst}
 use mathlib.Core.Logic.{_⊎_, inl, inr}
-use mathlib.Core.Bool.{Bool, true, false, not, cond, _&&_}
-use mathlib.Core.List.{List, List·Memᴰ}
+use mathlib.Core.Bool.{Bool, true, false, cond, _&&_}
+use mathlib.Core.List.{List·Memᴰ}
 use Prim.Native.Nat.{ℕ, _<_}
 use native.Mathlib.Omega.{arith}
 use lib.ListN.{length, getD}
 use lib.Dec.{eqb}
 use borrow.Author.Tests.{eqb-true}
-use Rattle.truth.proofs.Truth.{not-iff, and-iff, one-true}
+use Rattle.truth.proofs.Truth.{and-iff, one-true}
 use Rattle.tctl.specs.Tabulate.{tabulate}
-use Rattle.tctl.specs.Chart.{Chart, states}
+use Rattle.tctl.specs.Chart.{states}
 use Rattle.tctl.specs.Holds.{Holds}
-use Rattle.tctl.specs.Accepted.{Accepted, Instant, last, next, OnZeroLoop}
+use Rattle.tctl.specs.Accepted.{Accepted}
 use Rattle.tctl.proofs.Tabulate.{mem-tabulate}
 use Rattle.model.specs.Every.{every}
 use Rattle.model.specs.Engine.{round, rounds, lower, raise, least, greatest}
 use Rattle.model.specs.Decide.{someRow, waits, plainRow, sureRow, allRow, row, holds}
-use Rattle.model.specs.ZeroLoop.{leads, onZeroLoop}
+use Rattle.model.specs.ZeroLoop.{leads}
 use Rattle.model.proofs.Every.{every-true}
 use Rattle.model.proofs.Decide.{holds-iff}
-use Rattle.model.proofs.ZeroLoop.{on-zero-loop-iff}
 use Rattle.outcome.specs.Refusal.{lowest, first}
 use Rattle.chart.specs.Bytes.{arrowWords, chartOf}
-use Rattle.chart.specs.Refusals.{leftBy, chartTable, chartRefusal}
-use Rattle.chart.proofs.Accepted.{Checked, checked, chart-named, chart-accepted}
+use Rattle.chart.specs.Refusals.{leftBy, chartTable}
 use Rattle.rule.specs.Bytes.{nodeWords}
 use Rattle.rule.specs.Form.{formOf}
 use Rattle.rule.specs.Refusals.{wrongKind, wrongA, malformed, notLower, usesIn, uses, ruleTable, ruleRefusal}
 use Rattle.rule.specs.Formula.{formulaBy, formulaOf}
+use Rattle.loops.specs.Refusal.{loopRow, acceptedTable, acceptedRefusal}
+use Rattle.loops.proofs.Accepted.{accepted-only}
 use Rattle.items.specs.Items.{Item, items}
-
--- f says yes of every state
-abbrev everyState : Chart → (ℕ → Bool) → Bool
-everyState G f = every f (tabulate (states G) (λ s. s))
-
-every-state : (G : Chart) (f : ℕ → Bool) → everyState G f ≡ true → (s : ℕ) → s < states G → f s ≡ true
-every-state G f h s l = every-true f (tabulate (states G) (λ s. s)) h (mem-tabulate (states G) (λ s. s) s l)
-
--- no state is on a loop of arrows whose fewest are all 0
-abbrev loopFree : Chart → Bool
-loopFree G = everyState G (λ s. not (onZeroLoop G s))
 
 -- chart and rule are accepted, there is a mark for each state, and each is 1 just where the engine says yes
 passes : Item → Bool
 passes it =
     let G = chartOf (it .chart) in
     let f = formulaOf (it .rule) in
-    eqb (chartRefusal (it .chart) .number) 0 &&
-    loopFree G &&
+    eqb (acceptedRefusal (it .chart) .number) 0 &&
     eqb (ruleRefusal (it .rule) .number) 0 &&
     eqb (length (it .marks)) (states G) &&
-    everyState G (λ s. eqb (getD (it .marks) s 0) (cond (holds G f s) 1 0))
+    every (λ s. eqb (getD (it .marks) s 0) (cond (holds G f s) 1 0)) (tabulate (states G) (λ s. s))
 
 all-pass : every passes items ≡ true
 unfolding
-    passes items every tabulate chartOf arrowWords chartTable leftBy lowest first leads
+    passes items every tabulate chartOf arrowWords acceptedTable chartTable loopRow leads leftBy lowest first
     formOf nodeWords wrongKind wrongA malformed notLower usesIn uses ruleTable formulaBy
     round rounds lower raise least greatest someRow waits plainRow sureRow allRow row
 all-pass = refl
@@ -69,23 +57,15 @@ pub record Right (it : Item) : Type 0 where
   pub digit :
       (s : ℕ) → s < states (chartOf (it .chart)) → (getD (it .marks) s 0 ≡ 1) ⊎ (getD (it .marks) s 0 ≡ 0)
   pub marked :
-      (s : ℕ) → s < states (chartOf (it .chart)) → getD (it .marks) s 0 ≡ 1 → Holds (chartOf (it .chart)) (formulaOf (it .rule)) s
+      (s : ℕ) → s < states (chartOf (it .chart)) → getD (it .marks) s 0 ≡ 1 →
+      Holds (chartOf (it .chart)) (formulaOf (it .rule)) s
   pub unmarked :
-      (s : ℕ) → s < states (chartOf (it .chart)) → getD (it .marks) s 0 ≡ 0 → Holds (chartOf (it .chart)) (formulaOf (it .rule)) s → ⊥
+      (s : ℕ) → s < states (chartOf (it .chart)) → getD (it .marks) s 0 ≡ 0 →
+      Holds (chartOf (it .chart)) (formulaOf (it .rule)) s → ⊥
 
 one-or-zero : (b : Bool) → (_≡_ {A = ℕ} (cond b 1 0) 1) ⊎ (_≡_ {A = ℕ} (cond b 1 0) 0)
 one-or-zero true = inl refl
 one-or-zero false = inr refl
-
--- A state on a loop is the start of an arrow, hence one of the states that are asked.
-loop-free : (b : List ℕ) → Checked b → loopFree (chartOf b) ≡ true → (s : ℕ) → OnZeroLoop (chartOf b) s → ⊥
-loop-free b c h s w =
-    let G = chartOf b in
-    not-iff (onZeroLoop G s) .0 (every-state G (λ s. not (onZeroLoop G s)) h s (below w)) (on-zero-loop-iff G s .1 w)
-  where
-    below : {t u : ℕ} → Instant (chartOf b) t u → u < states (chartOf b)
-    below (last a m e z f) = subst (λ u. u < states (chartOf b)) e (chart-named b c a m .0)
-    below (next a m e z v) = subst (λ u. u < states (chartOf b)) e (chart-named b c a m .0)
 
 right : (it : Item) → passes it ≡ true → Right it
 unfolding passes
@@ -93,14 +73,12 @@ right it ok =
     let G = chartOf (it .chart) in
     let f = formulaOf (it .rule) in
     let mark : ℕ → Bool = λ s. eqb (getD (it .marks) s 0) (cond (holds G f s) 1 0) in
-    let a = and-iff _ (everyState G mark) .0 ok in
+    let a = and-iff _ (every mark (tabulate (states G) (λ s. s))) .0 ok in
     let b = and-iff _ (eqb (length (it .marks)) (states G)) .0 (a .0) in
-    let d = and-iff _ (eqb (ruleRefusal (it .rule) .number) 0) .0 (b .0) in
-    let e = and-iff (eqb (chartRefusal (it .chart) .number) 0) (loopFree G) .0 (d .0) in
-    let c = checked (it .chart) (eqb-true _ _ (e .0)) in
-    let acc = chart-accepted (it .chart) c (loop-free (it .chart) c (e .1)) in
+    let d = and-iff (eqb (acceptedRefusal (it .chart) .number) 0) (eqb (ruleRefusal (it .rule) .number) 0) .0 (b .0) in
+    let acc = accepted-only (it .chart) (eqb-true _ _ (d .0)) in
     let is : (s : ℕ) → s < states G → getD (it .marks) s 0 ≡ cond (holds G f s) 1 0 =
-    λ s l. eqb-true _ _ (every-state G mark (a .1) s l) in
+    λ s l. eqb-true _ _ (every-true mark (tabulate (states G) (λ s. s)) (a .1) (mem-tabulate (states G) (λ s. s) s l)) in
     record {
       chart = acc;
       rule = eqb-true _ _ (d .1);

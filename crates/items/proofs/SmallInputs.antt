@@ -4,24 +4,43 @@ use mathlib.Core.Bool.{Bool, true, _&&_}
 use mathlib.Core.List.{List}
 use Prim.Native.Nat.{ℕ}
 use lib.Dec.{eqb}
+use Rattle.tctl.specs.Tabulate.{tabulate}
 use Rattle.model.specs.Every.{every}
+use Rattle.model.specs.ZeroLoop.{leads}
 use Rattle.outcome.specs.declared.Outcome.{Outcome}
 use Rattle.outcome.specs.Refusal.{lowest, first}
-use Rattle.chart.specs.Bytes.{arrowWords}
-use Rattle.chart.specs.Refusals.{leftBy, chartTable, chartRefusal}
+use Rattle.chart.specs.Bytes.{arrowWords, chartOf}
+use Rattle.chart.specs.Refusals.{leftBy, chartTable}
 use Rattle.rule.specs.Bytes.{nodeWords}
 use Rattle.rule.specs.Form.{formOf}
 use Rattle.rule.specs.Refusals.{wrongKind, wrongA, malformed, notLower, usesIn, uses, ruleTable, ruleRefusal}
-use Rattle.items.specs.SmallInputs.{Refused, charts, rules}
+use Rattle.loops.specs.Refusal.{loopRow, acceptedTable, acceptedRefusal}
+use Rattle.detail.specs.Covered.{covered}
+use Rattle.detail.specs.Refusals.{noMap, mapTable, mapCheckTable, mapRefusal}
+use Rattle.items.specs.SmallInputs.{Refused, RefusedMap, charts, rules, maps}
+
+-- the outcome has the number n and the place p
+abbrev pub is : Outcome → ℕ → ℕ → Bool
+is r n p = eqb (r .number) n && eqb (r .place) p
 
 -- the refusal is the one that is listed
 abbrev pub as-listed : (List ℕ → Outcome) → Refused → Bool
-as-listed refusal x = eqb (refusal (x .bytes) .number) (x .number) && eqb (refusal (x .bytes) .place) (x .place)
+as-listed refusal x = is (refusal (x .bytes)) (x .number) (x .place)
 
-pub charts-refused : every (as-listed chartRefusal) charts ≡ true
-unfolding every charts chartTable arrowWords leftBy lowest first
+pub charts-refused : every (as-listed acceptedRefusal) charts ≡ true
+unfolding every charts acceptedTable chartTable loopRow arrowWords chartOf tabulate leads leftBy lowest first
 charts-refused = refl
 
 pub rules-refused : every (as-listed ruleRefusal) rules ≡ true
 unfolding every rules ruleTable nodeWords formOf wrongKind wrongA malformed notLower usesIn uses lowest first
 rules-refused = refl
+
+-- map check's refusal is the one that is listed
+abbrev pub map-as-listed : RefusedMap → Bool
+map-as-listed x = is (mapRefusal (x .detail) (x .overview) (x .map)) (x .number) (x .place)
+
+pub maps-refused : every map-as-listed maps ≡ true
+unfolding
+    every maps mapCheckTable mapTable noMap covered acceptedTable chartTable loopRow arrowWords chartOf tabulate leads
+    leftBy lowest first
+maps-refused = refl

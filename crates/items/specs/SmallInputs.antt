@@ -1,8 +1,8 @@
--- The column "Small input" of 01's table, rows 1 to 16.
+-- The column "Small input" of 01's table, rows 1 to 16 and 19 to 23, and overviews that map check refuses.
 use mathlib.Core.List.{List, [], _∷_, _++_}
-use Prim.Native.Nat.{ℕ}
-use lib.ListN.{take}
-use Rattle.items.specs.Write.{word, arrow, chart, node, rule}
+use Prim.Native.Nat.{ℕ, _+_, _/_}
+use lib.ListN.{length, take}
+use Rattle.items.specs.Write.{word, arrow, chart, node, rule, map}
 use Rattle.items.specs.Items.{short, trueUntil, A, atMost}
 
 -- bytes, and the number and the place that they are refused with
@@ -19,9 +19,9 @@ abbrev pub versioned : ℕ → List ℕ → List ℕ
 versioned v [] = []
 versioned v (b ∷ s) = v ∷ s
 
--- Short with another second arrow
+-- Short with other arrows, of 8 bytes each, in place of its second
 abbrev pub shortWith : List ℕ → List ℕ
-shortWith a = chart 3 3 (word 1 ++ word 2 ++ word 4) (arrow 0 1 5 10 ++ a ++ arrow 2 0 20 65535)
+shortWith a = chart 3 (length a / 8 + 2) (word 1 ++ word 2 ++ word 4) (arrow 0 1 5 10 ++ a ++ arrow 2 0 20 65535)
 
 unfoldable pub charts : List Refused
 charts =
@@ -45,6 +45,12 @@ charts =
     refused 8 1 (shortWith (arrow 1 2 5 4)) ∷
     -- n = 2, one arrow 0 to 0
     refused 9 1 (chart 2 1 (word 0 ++ word 0) (arrow 0 0 1 1)) ∷
+    -- arrow 0 to 0, slot 0 to 3
+    refused 19 0 (chart 1 1 (word 0) (arrow 0 0 0 3)) ∷
+    -- state 0 only leads to a loop of fewest 0
+    refused 19 1 (chart 2 2 (word 0 ++ word 0) (arrow 0 1 0 3 ++ arrow 1 1 0 3)) ∷
+    -- a loop that passes an arrow with fewest above 0 is not refused
+    refused 0 0 (chart 2 2 (word 0 ++ word 0) (arrow 0 1 0 3 ++ arrow 1 0 1 3)) ∷
     []
 
 unfoldable pub rules : List Refused
@@ -65,4 +71,51 @@ rules =
     refused 15 0 (rule 1 (node 2 0 0 0 0)) ∷
     -- node 1 = 0 and 0
     refused 16 0 (rule 2 (node 0 0 0 0 0 ++ node 3 0 0 0 0)) ∷
+    []
+
+-- a detail chart, an overview and a map, and the number and the place that they are refused with
+pub record RefusedMap : Type 0 where
+  pub detail : List ℕ
+  pub overview : List ℕ
+  pub map : List ℕ
+  pub number : ℕ
+  pub place : ℕ
+
+abbrev pub refusedMap : ℕ → ℕ → List ℕ → List ℕ → List ℕ → RefusedMap
+refusedMap n p d o m = record { detail = d; overview = o; map = m; number = n; place = p }
+
+-- each of three states stands for itself
+abbrev pub itself : List ℕ
+itself = map 3 (word 0 ++ word 1 ++ word 2)
+
+-- Short with label word 1 at every state
+abbrev pub alike : List ℕ
+alike = chart 3 3 (word 1 ++ word 1 ++ word 1) (arrow 0 1 5 10 ++ arrow 1 2 0 4 ++ arrow 2 0 20 65535)
+
+unfoldable pub maps : List RefusedMap
+maps =
+    -- Short under Short is not refused
+    refusedMap 0 0 short short itself ∷
+    -- empty detail, empty overview: the detail is tested first
+    refusedMap 1 0 [] [] itself ∷
+    -- an empty overview is 41
+    refusedMap 41 0 short [] itself ∷
+    -- overview with a loop of fewest 0, at its state 1 alone
+    refusedMap 59 1 short (shortWith (arrow 1 1 0 4)) itself ∷
+    -- empty map
+    refusedMap 20 0 short short [] ∷
+    -- count 2, detail n = 3
+    refusedMap 20 0 short short (map 2 (word 0 ++ word 1)) ∷
+    -- entry 3, overview n = 3
+    refusedMap 21 1 short short (map 3 (word 0 ++ word 3 ++ word 2)) ∷
+    -- 1 against 2; state 2 differs too
+    refusedMap 22 1 alike short itself ∷
+    -- 4 to 9, overview only 5 to 10
+    refusedMap 23 1 (shortWith (arrow 1 2 4 9)) (shortWith (arrow 1 2 5 10)) itself ∷
+    -- 4 to 9, overview 4 to 6 and 7 to 9: several joined don't count
+    refusedMap 23 1 (shortWith (arrow 1 2 4 9)) (shortWith (arrow 1 2 4 6 ++ arrow 1 2 7 9)) itself ∷
+    -- 4 to no end, overview only 4 to 65,534
+    refusedMap 23 1 (shortWith (arrow 1 2 4 65535)) (shortWith (arrow 1 2 4 65534)) itself ∷
+    -- 4 to 9, overview 4 to no end: not refused
+    refusedMap 0 0 (shortWith (arrow 1 2 4 9)) (shortWith (arrow 1 2 4 65535)) itself ∷
     []

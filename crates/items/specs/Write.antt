@@ -1,4 +1,4 @@
--- Charts and rules written as bytes (01, "Bytes of a chart, a rule and a map").
+-- Charts, rules and maps written as bytes (01, "Bytes of a chart, a rule and a map").
 use mathlib.Core.List.{List, [], _∷_, _++_}
 use Prim.Native.Nat.{ℕ, _+_, _/_, _%_}
 use lib.ListN.{length}
@@ -28,3 +28,7 @@ node operation kind a b c = operation ∷ kind ∷ word a ++ word b ++ word c
 -- "node count k in bytes 5 to 6, k nodes"
 abbrev pub rule : ℕ → List ℕ → List ℕ
 rule k nodes = headed (word k ++ nodes)
+
+-- "count in bytes 5 to 6, then for each detail state the 2-byte number of its overview state"
+abbrev pub map : ℕ → List ℕ → List ℕ
+map count entries = headed (word count ++ entries)
