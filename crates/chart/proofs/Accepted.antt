@@ -60,7 +60,9 @@ slot-within w e = turn (eqb (w .most) 65535)
     turn false = fits
 
 module _ (s : List ℕ) (ok : Checked s) where
-  pub chart-named : (a : Arrow) → List·Memᴰ a (chartOf s .arrows) → (a .start < states (chartOf s)) × (a .end < states (chartOf s))
+  pub chart-named :
+      (a : Arrow) → List·Memᴰ a (chartOf s .arrows) →
+      (a .start < states (chartOf s)) × (a .end < states (chartOf s))
   chart-named a m =
       let x = arrow-of s a m in
       let y = ok .ends (x .0) (x .1) in
@@ -71,7 +73,8 @@ module _ (s : List ℕ) (ok : Checked s) where
   pub chart-slots : (a : Arrow) → List·Memᴰ a (chartOf s .arrows) → Within (a .fewest) (a .most)
   chart-slots a m =
       let x = arrow-of s a m in
-      subst (λ b. Within (b .fewest) (b .most)) (sym (x .2)) (slot-within (arrowWords s (x .0)) (ok .slots (x .0) (x .1)))
+      subst (λ b. Within (b .fewest) (b .most)) (sym (x .2))
+      (slot-within (arrowWords s (x .0)) (ok .slots (x .0) (x .1)))
 
   chart-left : (v : ℕ) → v < states (chartOf s) → (a : Arrow) × List·Memᴰ a (chartOf s .arrows) × (a .start ≡ v)
   unfolding leftBy

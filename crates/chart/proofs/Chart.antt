@@ -22,6 +22,8 @@ module _ (s : List ℕ) where
   arrow-mem = mem-tabulate (arrowCount s) (λ i. arrowOf (arrowWords s i))
 
   -- and an arrow of the chart is one of the bytes'
-  pub arrow-of : (a : Arrow) → List·Memᴰ a (chartOf s .arrows) → (i : ℕ) × (i < arrowCount s) × (a ≡ arrowOf (arrowWords s i))
+  pub arrow-of :
+      (a : Arrow) → List·Memᴰ a (chartOf s .arrows) →
+      (i : ℕ) × (i < arrowCount s) × (a ≡ arrowOf (arrowWords s i))
   unfolding chartOf
   arrow-of a m = tabulate-mem (arrowCount s) (λ i. arrowOf (arrowWords s i)) m

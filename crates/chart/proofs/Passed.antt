@@ -58,7 +58,8 @@ module _ (s : List ℕ) where
       (arrowWords s i .start < n) × (arrowWords s i .end < n)
   named n m e i l =
       let w = arrowWords s i in
-      let k = or-false (leb n (w .start)) (leb n (w .end)) (none-below (λ i. namesNoState n (arrowWords s i)) m e i l) in
+      let passes = none-below (λ i. namesNoState n (arrowWords s i)) m e i l in
+      let k = or-false (leb n (w .start)) (leb n (w .end)) passes in
       (leb-false n (w .start) (k .0), leb-false n (w .end) (k .1))
 
   pub ends-passed :

@@ -11,8 +11,8 @@ use Rattle.rule.specs.Formula.{formulaOf}
 use Rattle.loops.specs.Accepted.{AcceptedChart}
 use Rattle.detail.specs.Bytes.{entry, MapFormat}
 
--- what the rule asks of a detail chart d, an overview o and a map p: both charts are accepted, and "detail state d stands
--- for the overview state that entry d of the map names"
+-- what the rule asks of a detail chart d, an overview o and a map p: both charts are accepted, and "detail state d
+-- stands for the overview state that entry d of the map names"
 pub record Premises (d o p : List ℕ) : Type 0 where
   pub detail : AcceptedChart d
   pub overview : AcceptedChart o

@@ -40,7 +40,9 @@ module _ (d o p : List ℕ) where
 
   module _ {a b : Outcome} (e : a ≡ acceptedRefusal d) (z : a .number ≡ 0) (f : b ≡ acceptedRefusal o) where
     -- what the overview's rows answer, the rows of both charts answer
-    both : {r : Outcome} → r ≡ first (shifted 40 (acceptedTable o)) → r ≡ first (acceptedTable d ++ shifted 40 (acceptedTable o))
+    both :
+        {r : Outcome} → r ≡ first (shifted 40 (acceptedTable o)) →
+        r ≡ first (acceptedTable d ++ shifted 40 (acceptedTable o))
     both = part-passes (acceptedTable d) (shifted 40 (acceptedTable o)) (accepted-numbered d) e z
 
     pub upper-refuses :
@@ -102,5 +104,6 @@ module _ (d o p : List ℕ) where
               pub labels-stop : (h .number ≡ 0 → ⊥) → h ≡ first (mapTable d o p)
               labels-stop x = rest (part-refuses (labelRow d o p n ∷ []) (coverRow d o p m ∷ []) labels x)
 
-              pub cover-last : {r : Outcome} → h .number ≡ 0 → r ≡ first (coverRow d o p m ∷ []) → r ≡ first (mapTable d o p)
+              pub cover-last :
+                  {r : Outcome} → h .number ≡ 0 → r ≡ first (coverRow d o p m ∷ []) → r ≡ first (mapTable d o p)
               cover-last x e = rest (part-passes (labelRow d o p n ∷ []) (coverRow d o p m ∷ []) tt labels x e)

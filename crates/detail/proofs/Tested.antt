@@ -15,7 +15,8 @@ use Rattle.detail.specs.Covered.{covers, covered, coveredAt}
 
 -- ── Row 22: the words x and y, read of state v and of the state e it stands for ──
 
-module _ (d o p : List ℕ) (v : ℕ) {x y e : ℕ} (own : x ≡ labelWord d v) (is : e ≡ entry p v) (other : y ≡ labelWord o e) where
+module _ (d o p : List ℕ) (v : ℕ) {x y e : ℕ}
+    (own : x ≡ labelWord d v) (is : e ≡ entry p v) (other : y ≡ labelWord o e) where
   pub labels-differ : ¬ (x ≡ y) → not (eqb (labelWord d v) (labelWord o (entry p v))) ≡ true
   labels-differ h = ap not (ne-eqb _ _ (λ z. h (own ∙ z ∙ sym (other ∙ ap (labelWord o) is))))
 

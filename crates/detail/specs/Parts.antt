@@ -1,5 +1,5 @@
--- The rows of the map's table as the functions test them, and what those functions ask of the bytes. The detail chart d has
--- n states and m arrows, the overview o has k states and l arrows.
+-- The rows of the map's table as the functions test them, and what those functions ask of the bytes. The detail chart d
+-- has n states and m arrows, the overview o has k states and l arrows.
 use mathlib.Core.Bool.{not}
 use mathlib.Core.List.{List}
 use Prim.Native.Nat.{ℕ, _+_, _*_, _≤_, _<_}

@@ -1,5 +1,5 @@
--- The refusals of map check: the rows of 01's table, in its order and its words, of a detail chart d, an overview o and a
--- map p.
+-- The refusals of map check: the rows of 01's table, in its order and its words, of a detail chart d, an overview o
+-- and a map p.
 use mathlib.Core.Bool.{Bool, not, _||_}
 use mathlib.Core.List.{List, [], _∷_, _++_}
 use Prim.Native.Nat.{ℕ, _+_, _*_}
@@ -36,8 +36,8 @@ mapTable d o p =
     refuse 23 (lowest (λ i. not (coveredAt d o p i)) m) ∷
     []
 
--- "Map check tests the detail chart (1 to 9, then 19), then the overview (the same plus 40: 41 to 49, 59; an empty overview
--- is 41), then 20 to 23."
+-- "Map check tests the detail chart (1 to 9, then 19), then the overview (the same plus 40: 41 to 49, 59; an empty
+-- overview is 41), then 20 to 23."
 unfoldable pub mapCheckTable : List ℕ → List ℕ → List ℕ → List Row
 mapCheckTable d o p = acceptedTable d ++ shifted 40 (acceptedTable o) ++ mapTable d o p
 

@@ -91,8 +91,8 @@ module _ {s : List ℕ} {cap : ℕ} where
         {w : ArrowWords} → w ≡ arrowWords s i → w .fewest ≡ 0 → Raised cap (w .start) (w .end) r old new →
         Climbed s cap i (i + 1) r old new
     climbed-one {r = r} {old} {new} p l size e =
-        subst (λ w. w .fewest ≡ 0 → Raised cap (w .start) (w .end) r old new → Climbed s cap i (i + 1) r old new) (sym e)
-        (climbed-here p l size)
+        subst (λ w. w .fewest ≡ 0 → Raised cap (w .start) (w .end) r old new → Climbed s cap i (i + 1) r old new)
+        (sym e) (climbed-here p l size)
 
   -- one arrow more
   pub climbed-more :

@@ -64,8 +64,10 @@ module _ (vs : List ℕ) (ones : All 1 vs) {n : ℕ} (size : length vs ≡ n) wh
     pub loop-found :
         (t : ℕ) → t < n → num ws t ≡ n + 1 → true ≡ found (lowest (onZeroLoop (chartOf s)) n)
     loop-found t l e =
-        let w = some-loop (drawn p) ones-states (settled .climbs) t (omega (arith, has-states p)) (omega (arith, has-states p)) in
-        sym (offender-found (onZeroLoop (chartOf s)) (omega (arith, w .1, has-states p)) (on-zero-loop-iff (chartOf s) (w .0) .1 (w .2)))
+        let G = chartOf s in
+        let h = has-states p in
+        let w = some-loop (drawn p) ones-states (settled .climbs) t (omega (arith, h)) (omega (arith, h)) in
+        sym (offender-found (onZeroLoop G) (omega (arith, w .1, h)) (on-zero-loop-iff G (w .0) .1 (w .2)))
 
     pub none-found :
         ((t : ℕ) → t < n → ¬ (num ws t ≡ n + 1)) → false ≡ found (lowest (onZeroLoop (chartOf s)) n)
@@ -73,8 +75,8 @@ module _ (vs : List ℕ) (ones : All 1 vs) {n : ℕ} (size : length vs ≡ n) wh
         let G = chartOf s in
         let low : (t : ℕ) → t < states G → num ws t ≤ states G =
         λ t l. omega (arith, h t (omega (arith, has-states p)), capped t, has-states p) in
-        let none : (t : ℕ) → t < n → onZeroLoop G t ≡ false =
-        λ t l. no-test (on-zero-loop-iff G t) (no-loop (drawn p) ones-states (settled .climbs) (settled .quiet) low t) in
+        let off = no-loop (drawn p) ones-states (settled .climbs) (settled .quiet) low in
+        let none : (t : ℕ) → t < n → onZeroLoop G t ≡ false = λ t l. no-test (on-zero-loop-iff G t) (off t) in
         ap found (sym (below-none (onZeroLoop G) n none))
       where
         capped : (t : ℕ) → num ws t ≤ n + 1

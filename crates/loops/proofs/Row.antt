@@ -19,7 +19,8 @@ module _ {s : List ℕ} {n m : ℕ} (p : Passed s n m) where
   unfolding loopRow
   row {r} = subst (λ k. r ≡ first (refuse 19 (lowest (onZeroLoop (chartOf s)) k) ∷ [])) (p .states)
 
-  pub row-met : {g : ℕ} {r : Outcome} → Least (onZeroLoop (chartOf s)) n g → r ≡ refusal 19 g → r ≡ first (loopRow s ∷ [])
+  pub row-met :
+      {g : ℕ} {r : Outcome} → Least (onZeroLoop (chartOf s)) n g → r ≡ refusal 19 g → r ≡ first (loopRow s ∷ [])
   row-met h e = row (e ∙ search-found 19 h)
 
   pub row-unmet :

@@ -1,5 +1,5 @@
-// Refusal 19: loops of arrows whose fewest are all 0, decided on lent numbers, one a state. The numbers climb along those
-// arrows: a state's number is one more than that of the state an arrow leads to, up to a cap.
+// Refusal 19: loops of arrows whose fewest are all 0, decided on lent numbers, one a state. The numbers climb along
+// those arrows: a state's number is one more than that of the state an arrow leads to, up to a cap.
 ghost use mathlib.Core.Path.{_≡_};
 ghost use mathlib.Core.List.{[], _∷_};
 ghost use Prim.Native.Nat.{ℕ, _+_, _≤_, _<_};

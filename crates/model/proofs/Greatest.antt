@@ -18,7 +18,16 @@ use Rattle.model.specs.Engine.{num, round, rounds, offer, raise, greates
 use Rattle.model.proofs.Numbers.{set-elim, Below, below-refl, below-trans}
 use Rattle.model.proofs.Rounds.{rounds-keep, round-up, round-past}
 use Rattle.model.proofs.Full.{full, full-set, full-all}
-use Rattle.model.proofs.Raise.{offer-le, offer-mono, offer-step, offer-duration, Offered, raise-elim, raise-below, raise-offers}
+use Rattle.model.proofs.Raise.{
+  offer-le,
+  offer-mono,
+  offer-step,
+  offer-duration,
+  Offered,
+  raise-elim,
+  raise-below,
+  raise-offers,
+}
 
 -- a path through go whose minutes and the base of its last state come to v; from a base of 0 there is none
 pub record Gain (G : Chart) (go : ℕ → Bool) (base : ℕ → ℕ) (s v : ℕ) : Type 0 where

@@ -65,7 +65,8 @@ pub part-refuses : (xs ys : List Row) {r : Outcome} → r ≡ first xs → (r .n
 part-refuses xs ys e h = e ∙ sym (append-stop xs ys (λ z. h (ap (λ (o : Outcome). o .number) e ∙ z)))
 
 pub part-passes :
-    (xs ys : List Row) {r x : Outcome} → Numbered xs → r ≡ first xs → r .number ≡ 0 → x ≡ first ys → x ≡ first (xs ++ ys)
+    (xs ys : List Row) {r x : Outcome} → Numbered xs → r ≡ first xs → r .number ≡ 0 → x ≡ first ys →
+    x ≡ first (xs ++ ys)
 part-passes xs ys h e z f = f ∙ sym (append-zero xs ys h (part-zero xs e z))
 
 -- the row with this number has this place, and no row before it is met

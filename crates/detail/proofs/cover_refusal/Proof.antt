@@ -1,6 +1,6 @@
 -- Invariant: every detail arrow before i is covered.
 use mathlib.Core.Path.{_≡_, ap, _∙_}
-use mathlib.Core.Bool.{false, not}
+use mathlib.Core.Bool.{Bool, false, not}
 use Prim.Native.Nat.{ℕ, _≤_, _<_, _-_}
 use native.Mathlib.Omega.{arith}
 use borrow.Author.Count.{below-none, below-more}
@@ -19,6 +19,22 @@ Inv-loop detail n m overview k l map i₀ i = (i ≤ m) × ((j : ℕ) → j < i 
 
 abbrev μ-loop : tie.MeasureT-loop
 μ-loop detail n m overview k l map i₀ i = m - i
+
+-- what the test of arrow i tells of it
+told :
+    (c : tie.After-covered-arrow Inv-loop μ-loop) {b : Bool} → not (c .covered-arrow .result) ≡ b →
+    let at-loop = c .before .before .before .before .before in
+    let a = at-loop .before .before .before .before .args in
+    not (coveredAt (now (a .detail)) (now (a .overview)) (now (a .map)) (at-loop .loop .i)) ≡ b
+told c g =
+    let read = c .before .before .before in
+    let at-loop = read .before .before in
+    let a = at-loop .before .before .before .before .args in
+    let w = read .arrow-at .ensures .0 in
+    let from = c .before .before .entry-at .ensures .0 in
+    let to = c .before .entry-at2 .ensures .0 in
+    covered-read (now (a .detail)) (now (a .overview)) (now (a .map)) (at-loop .loop .i) w from to
+    (c .covered-arrow .ensures) g
 
 loop-holds : tie.Need-loop-holds Inv-loop μ-loop
 loop-holds c = (omega arith, below-none _)
@@ -44,19 +60,19 @@ covered-arrow-requires : tie.Need-covered-arrow-requires Inv-loop μ-loop
 covered-arrow-requires c κs = c .before .before .before .before .before .before .before .before .pre .1
 
 cast-refused : tie.Need-cast-refused Inv-loop μ-loop
-cast-refused c = omega (arith, shaped (c .before .before .before .before .before .before .before .before .before .before .pre .0) .few-arrows)
+cast-refused c =
+    let at-loop = c .before .before .before .before .before .before in
+    let start = at-loop .before .before .before .before in
+    omega (arith, shaped (start .pre .0) .few-arrows)
 
 refused-requires : tie.Need-refused-requires Inv-loop μ-loop
 refused-requires c κs = tt
 
 returns : tie.Need-returns Inv-loop μ-loop
 returns c =
-    let a = c .before .before .before .before .before .before .before .before .before .before .before .args in
-    let loop = c .before .before .before .before .before .before .before .loop in
-    let w = c .before .before .before .before .before .arrow-at .ensures .0 in
-    let from = c .before .before .before .before .entry-at .ensures .0 in
-    let to = c .before .before .before .entry-at2 .ensures .0 in
-    let e = covered-read (now (a .detail)) (now (a .overview)) (now (a .map)) (loop .i) w from to (c .before .before .covered-arrow .ensures) (c .before .if1 .taken) in
+    let tested = c .before .before in
+    let loop = tested .before .before .before .before .before .loop in
+    let e = told tested (c .before .if1 .taken) in
     c .refused .ensures ∙ search-found 23 (record { inside = omega arith; offends = e; under = loop .inv .1 })
 
 add-i : tie.Need-add-i Inv-loop μ-loop
@@ -67,13 +83,9 @@ loop-less c = omega arith
 
 loop-again : tie.Need-loop-again Inv-loop μ-loop
 loop-again c =
-    let a = c .before .before .before .before .before .before .before .before .before .before .args in
-    let loop = c .before .before .before .before .before .before .loop in
-    let w = c .before .before .before .before .arrow-at .ensures .0 in
-    let from = c .before .before .before .entry-at .ensures .0 in
-    let to = c .before .before .entry-at2 .ensures .0 in
-    let e = covered-read (now (a .detail)) (now (a .overview)) (now (a .map)) (loop .i) w from to (c .before .covered-arrow .ensures) (c .if1 .left) in
-    (omega arith, below-more _ (loop .i) (loop .inv .1) e)
+    let tested = c .before in
+    let loop = tested .before .before .before .before .before .loop in
+    (omega arith, below-more _ (loop .i) (loop .inv .1) (told tested (c .if1 .left)))
 
 accepted-requires : tie.Need-accepted-requires Inv-loop μ-loop
 accepted-requires c κs = tt

@@ -1,6 +1,6 @@
 -- Invariant: no overview arrow before j covers a.
 use mathlib.Core.Path.{_≡_}
-use mathlib.Core.Bool.{false}
+use mathlib.Core.Bool.{Bool, false}
 use Prim.Native.Nat.{ℕ, _≤_, _<_, _-_}
 use native.Mathlib.Omega.{arith}
 use borrow.Author.Count.{below-none, below-more}
@@ -20,6 +20,18 @@ Inv-loop overview k l from to a j₀ j =
 abbrev μ-loop : tie.MeasureT-loop
 μ-loop overview k l from to a j₀ j = l - j
 
+-- what the test of arrow j tells of it
+told :
+    (c : tie.After-covers-arrow Inv-loop μ-loop) {b : Bool} → c .covers-arrow .result ≡ b →
+    let at-loop = c .before .before .before in
+    let a = at-loop .before .before .args in
+    covers (a .from) (a .to) (arrowOf (a .a)) (arrowOf (arrowWords (now (a .overview)) (at-loop .loop .j))) ≡ b
+told c g =
+    let at-loop = c .before .before .before in
+    let a = at-loop .before .before .args in
+    covers-read (now (a .overview)) (a .from) (a .to) (arrowOf (a .a)) (at-loop .loop .j)
+    (c .before .arrow-at .ensures .0) (c .covers-arrow .ensures) g
+
 loop-holds : tie.Need-loop-holds Inv-loop μ-loop
 loop-holds c = (omega arith, below-none _)
 
@@ -31,12 +43,11 @@ covers-arrow-requires c κs = c .arrow-at .ensures .1 .most
 
 returns : tie.Need-returns Inv-loop μ-loop
 returns c =
-    let a = c .before .before .before .before .before .before .args in
-    let o = now (a .overview) in
-    let j = c .before .before .before .before .loop .j in
-    let x = c .before .before .arrow-at in
-    let e = covers-read o (a .from) (a .to) (arrowOf (a .a)) j (x .ensures .0) (c .before .covers-arrow .ensures) (c .if1 .taken) in
-    covered-found o (a .from) (a .to) (arrowOf (a .a)) j (omega (arith, c .before .before .before .before .before .before .pre .arrows)) e
+    let at-loop = c .before .before .before .before in
+    let start = at-loop .before .before in
+    let a = start .args in
+    covered-found (now (a .overview)) (a .from) (a .to) (arrowOf (a .a)) (at-loop .loop .j)
+    (omega (arith, start .pre .arrows)) (told (c .before) (c .if1 .taken))
 
 add-j : tie.Need-add-j Inv-loop μ-loop
 add-j c = omega arith
@@ -46,16 +57,15 @@ loop-less c = omega arith
 
 loop-again : tie.Need-loop-again Inv-loop μ-loop
 loop-again c =
-    let a = c .before .before .before .before .before .before .args in
     let loop = c .before .before .before .before .loop in
-    let x = c .before .before .arrow-at in
-    let e = covers-read (now (a .overview)) (a .from) (a .to) (arrowOf (a .a)) (loop .j) (x .ensures .0) (c .before .covers-arrow .ensures) (c .if1 .left) in
-    (omega arith, below-more _ (loop .j) (loop .inv .1) e)
+    (omega arith, below-more _ (loop .j) (loop .inv .1) (told (c .before) (c .if1 .left)))
 
 returns-2 : tie.Need-returns-2 Inv-loop μ-loop
 returns-2 c =
-    let a = c .before .before .before .args in
-    covered-not (now (a .overview)) (a .from) (a .to) (arrowOf (a .a)) (λ j l. c .before .loop .inv .1 j (omega (arith, c .before .before .before .pre .arrows)))
+    let start = c .before .before .before in
+    let a = start .args in
+    covered-not (now (a .overview)) (a .from) (a .to) (arrowOf (a .a))
+    (λ j l. c .before .loop .inv .1 j (omega (arith, start .pre .arrows)))
 
 pub covered-arrow-spec : {M : Type 1} → statement M
 covered-arrow-spec =

@@ -12,16 +12,18 @@ returns-2 c = simp (eq-eqb _ _ (c .before .before .if1 .left), ne-eqb _ _ (c .if
 
 returns-3 : tie.Need-returns-3
 returns-3 c =
-    let ends = c .before .before .before .before .before .if1 .left in
-    simp (eq-eqb _ _ ends, eq-eqb _ _ (c .before .before .before .if2 .left), lt-leb _ _ (c .if3 .taken))
+    let starts = c .before .before .before .before .before .if1 .left in
+    let ends = c .before .before .before .if2 .left in
+    simp (eq-eqb _ _ starts, eq-eqb _ _ ends, lt-leb _ _ (c .if3 .taken))
 
 contains-most-requires : tie.Need-contains-most-requires
 contains-most-requires c κs = search needs
 
 returns-4 : tie.Need-returns-4
 returns-4 c =
-    let ends = c .before .before .before .before .before .before .if1 .left in
-    simp (eq-eqb _ _ ends, eq-eqb _ _ (c .before .before .before .before .if2 .left), le-leb _ _ (c .before .if3 .left)) (c .contains-most .ensures)
+    let starts = c .before .before .before .before .before .before .if1 .left in
+    let ends = c .before .before .before .before .if2 .left in
+    simp (eq-eqb _ _ starts, eq-eqb _ _ ends, le-leb _ _ (c .before .if3 .left)) (c .contains-most .ensures)
 
 pub covers-arrow-spec : {M : Type 1} → statement M
 covers-arrow-spec =

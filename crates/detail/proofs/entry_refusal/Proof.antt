@@ -32,9 +32,13 @@ refused-requires c κs = tt
 
 returns : tie.Need-returns Inv-loop μ-loop
 returns c =
-    let a = c .before .before .before .before .before .before .args in
-    let loop = c .before .before .before .before .loop in
-    let e = le-leb (a .k) (entry (now (a .map)) (loop .d)) (omega (arith, c .before .if1 .taken, c .before .before .entry-at .ensures .0)) in
+    let tested = c .before in
+    let read = tested .before in
+    let at-loop = read .before .before in
+    let a = at-loop .before .before .args in
+    let loop = at-loop .loop in
+    let is = read .entry-at .ensures .0 in
+    let e = le-leb (a .k) (entry (now (a .map)) (loop .d)) (omega (arith, tested .if1 .taken, is)) in
     c .refused .ensures ∙ search-found 21 (record { inside = omega arith; offends = e; under = loop .inv .1 })
 
 add-d : tie.Need-add-d Inv-loop μ-loop
@@ -45,9 +49,12 @@ loop-less c = omega arith
 
 loop-again : tie.Need-loop-again Inv-loop μ-loop
 loop-again c =
-    let a = c .before .before .before .before .before .args in
-    let loop = c .before .before .before .loop in
-    let e = lt-leb (a .k) (entry (now (a .map)) (loop .d)) (omega (arith, c .if1 .left, c .before .entry-at .ensures .0)) in
+    let read = c .before in
+    let at-loop = read .before .before in
+    let a = at-loop .before .before .args in
+    let loop = at-loop .loop in
+    let is = read .entry-at .ensures .0 in
+    let e = lt-leb (a .k) (entry (now (a .map)) (loop .d)) (omega (arith, c .if1 .left, is)) in
     (omega arith, below-more _ (loop .d) (loop .inv .1) e)
 
 accepted-requires : tie.Need-accepted-requires Inv-loop μ-loop

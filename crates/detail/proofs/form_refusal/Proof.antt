@@ -18,11 +18,16 @@ refused-requires c κs = search needs
 
 returns : tie.Need-returns
 returns c =
-    let wrong = unheaded _ (c .before .before .before .before .before .args .n) (c .before .before .before .head-refusal .ensures) (c .before .if1 .taken) in
+    let tested = c .before .before .before in
+    let start = tested .before .before in
+    let wrong = unheaded _ (start .args .n) (tested .head-refusal .ensures) (c .before .if1 .taken) in
     form-refuses _ _ wrong (c .refused .ensures)
 
 be16-requires : tie.Need-be16-requires
-be16-requires c κs = omega (arith, head-passed 20 7 (now (c .before .before .before .before .args .map)) tt (c .before .before .head-refusal .ensures) (c .if1 .left))
+be16-requires c κs =
+    let tested = c .before .before in
+    let start = tested .before .before in
+    omega (arith, head-passed 20 7 (now (start .args .map)) tt (tested .head-refusal .ensures) (c .if1 .left))
 
 cast-count : tie.Need-cast-count
 cast-count c = search needs
@@ -45,17 +50,23 @@ refused-requires-3 : tie.Need-refused-requires-3
 refused-requires-3 c κs = search needs
 
 returns-3 : tie.Need-returns-3
-returns-3 c = form-refuses _ _ (λ f. c .before .if3 .taken (c .before .before .before .be16 .ensures .0 ∙ f .count)) (c .refused3 .ensures)
+returns-3 c =
+    let count = c .before .before .before .be16 .ensures .0 in
+    form-refuses _ _ (λ f. c .before .if3 .taken (count ∙ f .count)) (c .refused3 .ensures)
 
 accepted-requires : tie.Need-accepted-requires
 accepted-requires c κs = search needs
 
 returns-4 : tie.Need-returns-4
 returns-4 c =
-    let head = c .before .before .before .before .before .before .head-refusal .ensures in
-    let count = c .before .before .before .be16 .ensures .0 in
-    let n = c .before .before .before .before .before .before .before .before .args .n in
-    form-passes _ n (formed _ n head (c .before .before .before .before .if1 .left) count (c .before .before .if2 .left) (c .before .if3 .left)) (c .accepted .ensures)
+    let read = c .before .before .before in
+    let headed = read .before in
+    let tested = headed .before .before in
+    let head = tested .head-refusal .ensures in
+    let count = read .be16 .ensures .0 in
+    let n = tested .before .before .args .n in
+    let form = formed _ n head (headed .if1 .left) count (c .before .before .if2 .left) (c .before .if3 .left) in
+    form-passes _ n form (c .accepted .ensures)
 
 pub form-refusal-spec : {M : Type 1} → statement M
 form-refusal-spec =

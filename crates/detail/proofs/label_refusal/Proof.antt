@@ -37,19 +37,26 @@ label-word-requires-2 c κs =
     omega (arith, shaped (start .pre .1) .whole, inside, c .entry-at .ensures .0)
 
 cast-refused : tie.Need-cast-refused Inv-loop μ-loop
-cast-refused c = omega (arith, shaped (c .before .before .before .before .before .before .before .before .before .pre .0) .few-states)
+cast-refused c =
+    let at-loop = c .before .before .before .before .before in
+    let start = at-loop .before .before .before .before in
+    omega (arith, shaped (start .pre .0) .few-states)
 
 refused-requires : tie.Need-refused-requires Inv-loop μ-loop
 refused-requires c κs = tt
 
 returns : tie.Need-returns Inv-loop μ-loop
 returns c =
-    let a = c .before .before .before .before .before .before .before .before .before .before .args in
-    let loop = c .before .before .before .before .before .before .loop in
-    let own = c .before .before .before .before .label-word .ensures .0 in
-    let is = c .before .before .before .entry-at .ensures .0 in
-    let other = c .before .before .label-word2 .ensures .0 in
-    let e = labels-differ (now (a .detail)) (now (a .overview)) (now (a .map)) (loop .d) own is other (c .before .if1 .taken) in
+    let tested = c .before in
+    let read = tested .before in
+    let at-loop = read .before .before .before .before in
+    let a = at-loop .before .before .before .before .args in
+    let loop = at-loop .loop in
+    let own = read .before .before .label-word .ensures .0 in
+    let is = read .before .entry-at .ensures .0 in
+    let other = read .label-word2 .ensures .0 in
+    let differ = tested .if1 .taken in
+    let e = labels-differ (now (a .detail)) (now (a .overview)) (now (a .map)) (loop .d) own is other differ in
     c .refused .ensures ∙ search-found 22 (record { inside = omega arith; offends = e; under = loop .inv .1 })
 
 add-d : tie.Need-add-d Inv-loop μ-loop
@@ -60,11 +67,15 @@ loop-less c = omega arith
 
 loop-again : tie.Need-loop-again Inv-loop μ-loop
 loop-again c =
-    let a = c .before .before .before .before .before .before .before .before .before .args in
-    let loop = c .before .before .before .before .before .loop in
-    let own = c .before .before .before .label-word .ensures .0 in
-    let is = c .before .before .entry-at .ensures .0 in
-    let e = labels-same (now (a .detail)) (now (a .overview)) (now (a .map)) (loop .d) own is (c .before .label-word2 .ensures .0) (c .if1 .left) in
+    let read = c .before in
+    let at-loop = read .before .before .before .before in
+    let a = at-loop .before .before .before .before .args in
+    let loop = at-loop .loop in
+    let own = read .before .before .label-word .ensures .0 in
+    let is = read .before .entry-at .ensures .0 in
+    let other = read .label-word2 .ensures .0 in
+    let same = c .if1 .left in
+    let e = labels-same (now (a .detail)) (now (a .overview)) (now (a .map)) (loop .d) own is other same in
     (omega arith, below-more _ (loop .d) (loop .inv .1) e)
 
 accepted-requires : tie.Need-accepted-requires Inv-loop μ-loop

@@ -16,19 +16,22 @@ accepted-refusal-requires c κs = search needs
 
 returns : tie.Need-returns
 returns c =
-    let a = c .before .before .before .before .before .before .args in
+    let lower-tested = c .before .before in
+    let a = lower-tested .before .before .before .before .args in
     let d = now (a .detail) in
     let o = now (a .overview) in
     let p = now (a .map) in
-    lower-refuses d o p (c .before .before .accepted-refusal .ensures) (c .if1 .taken)
+    lower-refuses d o p (lower-tested .accepted-refusal .ensures) (c .if1 .taken)
 
 accepted-refusal-requires-2 : tie.Need-accepted-refusal-requires-2
 accepted-refusal-requires-2 c κs = search needs
 
 add-refused : tie.Need-add-refused
 add-refused c =
-    let o = now (c .before .before .before .before .before .before .before .before .before .before .args .overview) in
-    let e = ap (λ (x : Outcome). x .number) (c .before .before .before .accepted-refusal2 .ensures) in
+    let upper-tested = c .before .before .before in
+    let lower-tested = upper-tested .before .before .before in
+    let o = now (lower-tested .before .before .before .before .args .overview) in
+    let e = ap (λ (x : Outcome). x .number) (upper-tested .accepted-refusal2 .ensures) in
     omega (arith, e, accepted-number o)
 
 refused-requires : tie.Need-refused-requires
@@ -36,28 +39,41 @@ refused-requires c κs = search needs
 
 returns-2 : tie.Need-returns-2
 returns-2 c =
-    let a = c .before .before .before .before .before .before .before .before .before .before .before .args in
+    let upper-refused = c .before .before in
+    let upper-tested = upper-refused .before .before in
+    let lower-passed = upper-tested .before in
+    let lower-tested = lower-passed .before .before in
+    let a = lower-tested .before .before .before .before .args in
     let d = now (a .detail) in
     let o = now (a .overview) in
     let p = now (a .map) in
-    upper-refuses d o p (c .before .before .before .before .before .before .before .accepted-refusal .ensures) (c .before .before .before .before .before .if1 .left) (c .before .before .before .before .accepted-refusal2 .ensures) (c .before .before .if2 .taken) (c .refused .ensures)
+    upper-refuses d o p (lower-tested .accepted-refusal .ensures) (lower-passed .if1 .left)
+    (upper-tested .accepted-refusal2 .ensures) (upper-refused .if2 .taken) (c .refused .ensures)
 
 map-refusal-requires : tie.Need-map-refusal-requires
 map-refusal-requires c κs =
-    let a = c .before .before .before .before .before .before .before .before .before .args in
+    let upper-tested = c .before .before in
+    let lower-passed = upper-tested .before in
+    let lower-tested = lower-passed .before .before in
+    let a = lower-tested .before .before .before .before .args in
     let d = now (a .detail) in
     let o = now (a .overview) in
-    let lower = part-zero (acceptedTable d) (c .before .before .before .before .before .accepted-refusal .ensures) (c .before .before .before .if1 .left) in
-    let upper = part-zero (acceptedTable o) (c .before .before .accepted-refusal2 .ensures) (c .if2 .left) in
+    let lower = part-zero (acceptedTable d) (lower-tested .accepted-refusal .ensures) (lower-passed .if1 .left) in
+    let upper = part-zero (acceptedTable o) (upper-tested .accepted-refusal2 .ensures) (c .if2 .left) in
     (chart-passed d lower, chart-passed o upper)
 
 returns-3 : tie.Need-returns-3
 returns-3 c =
-    let a = c .before .before .before .before .before .before .before .before .before .before .args in
+    let upper-passed = c .before in
+    let upper-tested = upper-passed .before .before in
+    let lower-passed = upper-tested .before in
+    let lower-tested = lower-passed .before .before in
+    let a = lower-tested .before .before .before .before .args in
     let d = now (a .detail) in
     let o = now (a .overview) in
     let p = now (a .map) in
-    map-next d o p (c .before .before .before .before .before .before .accepted-refusal .ensures) (c .before .before .before .before .if1 .left) (c .before .before .before .accepted-refusal2 .ensures) (c .before .if2 .left) (c .map-refusal .ensures)
+    map-next d o p (lower-tested .accepted-refusal .ensures) (lower-passed .if1 .left)
+    (upper-tested .accepted-refusal2 .ensures) (upper-passed .if2 .left) (c .map-refusal .ensures)
 
 pub map-check-spec : {M : Type 1} → statement M
 map-check-spec =

@@ -20,25 +20,35 @@ arrow-count-requires c κs = chart-whole _ (c .before .before .before .chart-ref
 
 array-borrow-prefix-numbers : tie.Need-array-borrow-prefix-numbers
 array-borrow-prefix-numbers c =
-    let small = chart-small _ (c .before .before .before .before .chart-refusal .ensures) (c .before .before .if1 .left) in
-    omega (arith, small, c .before .state-count .ensures .0)
+    let counted = c .before in
+    let passed = counted .before in
+    let small = chart-small _ (passed .before .before .chart-refusal .ensures) (passed .if1 .left) in
+    omega (arith, small, counted .state-count .ensures .0)
 
 slice-aggregate-loop-refusal : tie.Need-slice-aggregate-loop-refusal
 slice-aggregate-loop-refusal c =
-    let small = chart-small _ (c .before .before .before .before .before .chart-refusal .ensures) (c .before .before .before .if1 .left) in
-    sym (prefix-size (c .before .before .state-count .result) _ (omega (arith, small, c .before .before .state-count .ensures .0)))
+    let counted = c .before .before in
+    let passed = counted .before in
+    let n = counted .state-count in
+    let small = chart-small _ (passed .before .before .chart-refusal .ensures) (passed .if1 .left) in
+    sym (prefix-size (n .result) _ (omega (arith, small, n .ensures .0)))
 
 loop-refusal-requires : tie.Need-loop-refusal-requires
 loop-refusal-requires c κs =
-    let e = c .before .before .before .before .before .chart-refusal .ensures in
-    let z = c .before .before .before .if1 .left in
-    let n = c .before .before .state-count in
-    let small = chart-small _ e z in
-    (chart-passed _ e z (n .ensures .0) (c .before .arrow-count .ensures .0), prefix-size (n .result) _ (omega (arith, small, n .ensures .0)))
+    let counted = c .before .before in
+    let passed = counted .before in
+    let e = passed .before .before .chart-refusal .ensures in
+    let z = passed .if1 .left in
+    let n = counted .state-count in
+    let small = chart-small _ e z in (
+      chart-passed _ e z (n .ensures .0) (c .before .arrow-count .ensures .0),
+      prefix-size (n .result) _ (omega (arith, small, n .ensures .0)),
+    )
 
 returns-2 : tie.Need-returns-2
 returns-2 c =
-    loop-next _ (c .before .before .before .before .before .before .before .chart-refusal .ensures) (c .before .before .before .before .before .if1 .left) (c .before .loop-refusal .ensures)
+    let passed = c .before .before .before .before .before in
+    loop-next _ (passed .before .before .chart-refusal .ensures) (passed .if1 .left) (c .before .loop-refusal .ensures)
 
 pub accepted-refusal-spec : {M : Type 1} → statement M
 accepted-refusal-spec =

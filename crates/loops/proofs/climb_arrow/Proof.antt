@@ -30,9 +30,12 @@ same-length c = search needs
 
 returns-2 : tie.Need-returns-2
 returns-2 c =
-    let p = c .before .before .before .before .before .before .before .before .before .pre in
-    let e = c .before .before .before .before .before .before .arrow-at .ensures .0 in
-    climbed-one (p .0) (p .1) (p .2 .size) e (c .before .before .before .before .if1 .left) (c .before .before .raise .ensures)
+    let raised = c .before .before in
+    let instant = raised .before .before in
+    let read = instant .before .before in
+    let p = read .before .before .before .pre in
+    let e = read .arrow-at .ensures .0 in
+    climbed-one (p .0) (p .1) (p .2 .size) e (instant .if1 .left) (raised .raise .ensures)
 
 pub climb-arrow-spec : {M : Type 1} → statement M
 climb-arrow-spec =

@@ -28,9 +28,11 @@ climb-arrow-requires c κs =
 
 add-raised : tie.Need-add-raised Inv-loop μ-loop
 add-raised c =
-    let loop = c .before .before .before .before .before .loop in
-    let p = c .before .before .before .before .before .before .before .before .pre in
-    omega (arith, loop .inv .0, loop .inv .1 .few, c .before .before .climb-arrow .ensures .few, shaped (p .0) .few-arrows)
+    let climbed = c .before .before in
+    let at-loop = climbed .before .before .before in
+    let inv = at-loop .loop .inv in
+    let p = at-loop .before .before .before .pre in
+    omega (arith, inv .0, inv .1 .few, climbed .climb-arrow .ensures .few, shaped (p .0) .few-arrows)
 
 add-i : tie.Need-add-i Inv-loop μ-loop
 add-i c = omega arith
@@ -39,7 +41,10 @@ loop-less : tie.Need-loop-less Inv-loop μ-loop
 loop-less c = omega arith
 
 loop-again : tie.Need-loop-again Inv-loop μ-loop
-loop-again c = (omega arith, climbed-more (c .before .before .before .before .before .loop .inv .1) (c .before .before .climb-arrow .ensures))
+loop-again c =
+    let climbed = c .before .before in
+    let at-loop = climbed .before .before .before in
+    (omega arith, climbed-more (at-loop .loop .inv .1) (climbed .climb-arrow .ensures))
 
 same-length : tie.Need-same-length Inv-loop μ-loop
 same-length c = climb-size (c .before .loop .inv .1 .climbs)
@@ -48,7 +53,8 @@ returns : tie.Need-returns Inv-loop μ-loop
 returns c =
     let a = c .before .before .before .before .args in
     let loop = c .before .loop in
-    subst (λ (k : ℕ). Climbed (now (a .chart)) (a .cap) 0 k (loop .raised) (now (a .numbers)) (loop .numbers)) (omega arith) (loop .inv .1)
+    subst (λ (k : ℕ). Climbed (now (a .chart)) (a .cap) 0 k (loop .raised) (now (a .numbers)) (loop .numbers))
+    (omega arith) (loop .inv .1)
 
 pub climb-round-spec : {M : Type 1} → statement M
 climb-round-spec =

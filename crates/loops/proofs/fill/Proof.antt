@@ -11,7 +11,8 @@ use Rattle.loops.proofs.fill.Tie as tie
 -- Invariant: the numbers before i are v.
 
 abbrev Inv-loop : tie.InvT-loop
-Inv-loop numbers₀ v i₀ numbers i = (i ≤ length numbers₀) × (length numbers ≡ length numbers₀) × ((s : ℕ) → s < i → num numbers s ≡ v)
+Inv-loop numbers₀ v i₀ numbers i =
+    (i ≤ length numbers₀) × (length numbers ≡ length numbers₀) × ((s : ℕ) → s < i → num numbers s ≡ v)
 
 abbrev μ-loop : tie.MeasureT-loop
 μ-loop numbers₀ v i₀ numbers i = length numbers₀ - i
@@ -34,7 +35,11 @@ loop-less c = omega arith
 loop-again : tie.Need-loop-again Inv-loop μ-loop
 loop-again c =
     let loop = c .before .loop in
-    (omega arith, simp length-set (loop .inv .1), filled-more (loop .numbers) (loop .i) (c .before .before .args .v) (omega (arith, loop .inv .1)) (loop .inv .2))
+    let v = c .before .before .args .v in (
+      omega arith,
+      simp length-set (loop .inv .1),
+      filled-more (loop .numbers) (loop .i) v (omega (arith, loop .inv .1)) (loop .inv .2),
+    )
 
 same-length : tie.Need-same-length Inv-loop μ-loop
 same-length c = c .before .loop .inv .1

@@ -25,8 +25,10 @@ same-length-2 c = search needs
 
 returns-2 : tie.Need-returns-2
 returns-2 c =
-    let found = sym (c .before .if1 .left) ∙ c .before .before .before .before .some-loop .ensures in
-    row-not-found (c .before .before .before .before .before .before .before .before .pre .0) found (c .accepted .ensures)
+    let looked = c .before .before .before .before in
+    let start = looked .before .before .before .before in
+    let found = sym (c .before .if1 .left) ∙ looked .some-loop .ensures in
+    row-not-found (start .pre .0) found (c .accepted .ensures)
 
 pub loop-refusal-spec : {M : Type 1} → statement M
 loop-refusal-spec =

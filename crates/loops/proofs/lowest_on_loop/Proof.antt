@@ -14,7 +14,8 @@ use Rattle.loops.proofs.lowest_on_loop.Tie as tie
 -- Invariant: no state before g is on a loop.
 
 abbrev Inv-loop : tie.InvT-loop
-Inv-loop chart n m numbers₀ g₀ numbers g = (g ≤ n) × (length numbers ≡ length numbers₀) × ((v : ℕ) → v < g → onZeroLoop (chartOf chart) v ≡ false)
+Inv-loop chart n m numbers₀ g₀ numbers g =
+    (g ≤ n) × (length numbers ≡ length numbers₀) × ((v : ℕ) → v < g → onZeroLoop (chartOf chart) v ≡ false)
 
 abbrev μ-loop : tie.MeasureT-loop
 μ-loop chart n m numbers₀ g₀ numbers g = n - g
@@ -29,20 +30,28 @@ on-loop-requires c κs =
     (p .0, c .before .loop-test .taken, loop .inv .1 ∙ p .1)
 
 cast-refused : tie.Need-cast-refused Inv-loop μ-loop
-cast-refused c = omega (arith, shaped (c .before .before .before .before .before .before .before .before .before .pre .0) .few-states)
+cast-refused c =
+    let at-loop = c .before .before .before .before .before .before in
+    let start = at-loop .before .before .before in
+    omega (arith, shaped (start .pre .0) .few-states)
 
 refused-requires : tie.Need-refused-requires Inv-loop μ-loop
 refused-requires c κs = tt
 
 same-length : tie.Need-same-length Inv-loop μ-loop
-same-length c = c .before .before .before .before .on-loop .kept .1 .1 .1 .1 .0 ∙ c .before .before .before .before .before .before .before .loop .inv .1
+same-length c =
+    let tested = c .before .before .before .before in
+    let at-loop = tested .before .before .before in
+    tested .on-loop .kept .1 .1 .1 .1 .0 ∙ at-loop .loop .inv .1
 
 returns : tie.Need-returns Inv-loop μ-loop
 returns c =
-    let p = c .before .before .before .before .before .before .before .before .before .before .pre in
-    let loop = c .before .before .before .before .before .before .before .loop in
-    let offends = sym (c .before .before .before .before .on-loop .ensures) ∙ c .before .if1 .taken in
-    row-met (p .0) (record { inside = omega arith; offends = offends; under = loop .inv .2 }) (c .refused .ensures)
+    let tested = c .before .before .before .before in
+    let at-loop = tested .before .before .before in
+    let p = at-loop .before .before .before .pre in
+    let offends = sym (tested .on-loop .ensures) ∙ c .before .if1 .taken in
+    row-met (p .0) (record { inside = omega arith; offends = offends; under = at-loop .loop .inv .2 })
+    (c .refused .ensures)
 
 add-g : tie.Need-add-g Inv-loop μ-loop
 add-g c = omega arith
@@ -52,9 +61,10 @@ loop-less c = omega arith
 
 loop-again : tie.Need-loop-again Inv-loop μ-loop
 loop-again c =
-    let loop = c .before .before .before .before .before .before .loop in
-    let e = sym (c .before .before .before .on-loop .ensures) ∙ c .if1 .left in
-    (omega arith, c .before .before .before .on-loop .kept .1 .1 .1 .1 .0 ∙ loop .inv .1, below-more _ (loop .g) (loop .inv .2) e)
+    let tested = c .before .before .before in
+    let loop = tested .before .before .before .loop in
+    let e = sym (tested .on-loop .ensures) ∙ c .if1 .left in
+    (omega arith, tested .on-loop .kept .1 .1 .1 .1 .0 ∙ loop .inv .1, below-more _ (loop .g) (loop .inv .2) e)
 
 accepted-requires : tie.Need-accepted-requires Inv-loop μ-loop
 accepted-requires c κs = tt
@@ -64,8 +74,9 @@ same-length-2 c = c .before .before .loop .inv .1
 
 returns-2 : tie.Need-returns-2 Inv-loop μ-loop
 returns-2 c =
-    let loop = c .before .before .loop in
-    row-unmet (c .before .before .before .before .before .pre .0) (λ v l. loop .inv .2 v (omega arith)) (c .accepted .ensures)
+    let at-loop = c .before .before in
+    let start = at-loop .before .before .before in
+    row-unmet (start .pre .0) (λ v l. at-loop .loop .inv .2 v (omega arith)) (c .accepted .ensures)
 
 pub lowest-on-loop-spec : {M : Type 1} → statement M
 lowest-on-loop-spec =

@@ -20,34 +20,42 @@ slice-write-numbers c = search needs
 
 settle-requires : tie.Need-settle-requires
 settle-requires c κs =
-    let start = c .before .before .before .before .before .before .before in
-    let p = start .pre in
-    let f = c .before .before .before .fill in
-    (p .0, lone-numbers (f .last .0) (λ s l. f .ensures s (omega (arith, f .kept .0))) (f .kept .0 ∙ p .2) (p .1), omega arith)
+    let filled = c .before .before .before in
+    let p = filled .before .before .before .before .pre in
+    let f = filled .fill in
+    let size = f .kept .0 ∙ p .2 in
+    (p .0, lone-numbers (f .last .0) (λ s l. f .ensures s (omega (arith, f .kept .0))) size (p .1), omega arith)
 
 mul-result : tie.Need-mul-result
 mul-result c = search needs
 
 slice-read-result : tie.Need-slice-read-result
 slice-read-result c =
-    let start = c .before .before .before .before .before .before .before .before .before .before .before in
+    let settled = c .before .before .before in
+    let filled = settled .before .before .before .before in
+    let start = filled .before .before .before .before in
     let p = start .pre in
-    let f = c .before .before .before .before .before .before .before .fill in
-    let size = climb-size (c .before .before .before .settle .ensures .climbs) ∙ length-set (f .last .0) (start .args .g) 1 in
+    let f = filled .fill in
+    let size = climb-size (settled .settle .ensures .climbs) ∙ length-set (f .last .0) (start .args .g) 1 in
     omega (arith, size, f .kept .0, p .1, p .2)
 
 same-length : tie.Need-same-length
 same-length c =
-    let start = c .before .before .before .before .before .before .before .before .before .before .before in
-    let f = c .before .before .before .before .before .before .before .fill in
-    climb-size (c .before .before .before .settle .ensures .climbs) ∙ length-set (f .last .0) (start .args .g) 1 ∙ f .kept .0
+    let settled = c .before .before .before in
+    let filled = settled .before .before .before .before in
+    let start = filled .before .before .before .before in
+    let f = filled .fill in
+    climb-size (settled .settle .ensures .climbs) ∙ length-set (f .last .0) (start .args .g) 1 ∙ f .kept .0
 
 returns : tie.Need-returns
 returns c =
-    let start = c .before .before .before .before .before .before .before .before .before .before .before in
+    let settled = c .before .before .before in
+    let filled = settled .before .before .before .before in
+    let start = filled .before .before .before .before in
     let p = start .pre in
-    let f = c .before .before .before .before .before .before .before .fill in
-    lone-answer (f .last .0) (λ s l. f .ensures s (omega (arith, f .kept .0))) (f .kept .0 ∙ p .2) (p .1) (now (start .args .chart)) (c .before .before .before .settle .ensures)
+    let f = filled .fill in
+    lone-answer (f .last .0) (λ s l. f .ensures s (omega (arith, f .kept .0))) (f .kept .0 ∙ p .2) (p .1)
+    (now (start .args .chart)) (settled .settle .ensures)
 
 pub on-loop-spec : {M : Type 1} → statement M
 on-loop-spec =

@@ -26,17 +26,25 @@ loop-less : tie.Need-loop-less Inv-loop μ-loop
 loop-less c = c .before .before .before .climb-round .ensures .falls (omega arith)
 
 loop-again : tie.Need-loop-again Inv-loop μ-loop
-loop-again c = climb-trans (c .before .before .before .before .before .loop .inv) (c .before .before .before .climb-round .ensures .climbs)
+loop-again c =
+    let climbed = c .before .before .before in
+    let at-loop = climbed .before .before in
+    climb-trans (at-loop .loop .inv) (climbed .climb-round .ensures .climbs)
 
 same-length : tie.Need-same-length Inv-loop μ-loop
-same-length c = climb-size (climb-trans (c .before .before .before .before .before .loop .inv) (c .before .before .before .climb-round .ensures .climbs))
+same-length c =
+    let climbed = c .before .before .before in
+    let at-loop = climbed .before .before in
+    climb-size (climb-trans (at-loop .loop .inv) (climbed .climb-round .ensures .climbs))
 
 returns : tie.Need-returns Inv-loop μ-loop
 returns c =
-    let p = c .before .before .before .before .before .before .before .before .pre in
-    let x = c .before .before .before .climb-round .ensures in
+    let climbed = c .before .before .before in
+    let at-loop = climbed .before .before in
+    let p = at-loop .before .before .before .pre in
+    let x = climbed .climb-round .ensures in
     record {
-      climbs = climb-trans (c .before .before .before .before .before .loop .inv) (x .climbs);
+      climbs = climb-trans (at-loop .loop .inv) (x .climbs);
       quiet = climbed-quiet (p .0) x (c .if1 .left);
     }
 

@@ -27,8 +27,9 @@ fill-requires c κs = tt
 
 settle-requires : tie.Need-settle-requires Inv-loop μ-loop
 settle-requires c κs =
-    let p = c .before .before .before .before .before .before .before .pre in
-    let f = c .before .before .before .fill in
+    let filled = c .before .before .before in
+    let p = filled .before .before .before .before .pre in
+    let f = filled .fill in
     let numbers = ones-numbers (f .last .0) (λ s l. f .ensures s (omega (arith, f .kept .0))) (f .kept .0 ∙ p .1) in
     (p .0, numbers, omega (arith, shaped (p .0) .few-states))
 
@@ -36,22 +37,35 @@ loop-holds : tie.Need-loop-holds Inv-loop μ-loop
 loop-holds c = (omega arith, below-none _)
 
 mul-if1 : tie.Need-mul-if1 Inv-loop μ-loop
-mul-if1 c = omega (arith, shaped (c .before .before .before .before .before .before .before .before .before .before .before .before .pre .0) .few-states)
+mul-if1 c =
+    let settled = c .before .before .before .before in
+    let filled = settled .before .before .before .before in
+    let start = filled .before .before .before .before in
+    omega (arith, shaped (start .pre .0) .few-states)
 
 slice-read-if1 : tie.Need-slice-read-if1 Inv-loop μ-loop
 slice-read-if1 c =
-    let p = c .before .before .before .before .before .before .before .before .before .before .before .before .before .pre in
-    let size = climb-size (c .before .before .before .before .before .settle .ensures .climbs) ∙ c .before .before .before .before .before .before .before .before .before .fill .kept .0 in
-    omega (arith, size, p .1)
+    let settled = c .before .before .before .before .before in
+    let filled = settled .before .before .before .before in
+    let start = filled .before .before .before .before in
+    let size = climb-size (settled .settle .ensures .climbs) ∙ filled .fill .kept .0 in
+    omega (arith, size, start .pre .1)
 
 same-length : tie.Need-same-length Inv-loop μ-loop
-same-length c = climb-size (c .before .before .before .before .before .before .settle .ensures .climbs) ∙ c .before .before .before .before .before .before .before .before .before .before .fill .kept .0
+same-length c =
+    let settled = c .before .before .before .before .before .before in
+    let filled = settled .before .before .before .before in
+    climb-size (settled .settle .ensures .climbs) ∙ filled .fill .kept .0
 
 returns : tie.Need-returns Inv-loop μ-loop
 returns c =
-    let p = c .before .before .before .before .before .before .before .before .before .before .before .before .before .before .pre in
-    let f = c .before .before .before .before .before .before .before .before .before .before .fill in
-    loop-found (f .last .0) (λ s l. f .ensures s (omega (arith, f .kept .0))) (f .kept .0 ∙ p .1) (p .0) (c .before .before .before .before .before .before .settle .ensures) _ (c .before .before .loop-test .taken) (c .if1 .taken)
+    let in-loop = c .before .before in
+    let settled = in-loop .before .before .before .before in
+    let filled = settled .before .before .before .before in
+    let p = filled .before .before .before .before .pre in
+    let f = filled .fill in
+    loop-found (f .last .0) (λ s l. f .ensures s (omega (arith, f .kept .0))) (f .kept .0 ∙ p .1) (p .0)
+    (settled .settle .ensures) _ (in-loop .loop-test .taken) (c .if1 .taken)
 
 add-s : tie.Need-add-s Inv-loop μ-loop
 add-s c = omega arith
@@ -65,13 +79,19 @@ loop-again c =
     (omega arith, below-more _ (loop .s) (loop .inv .1) (c .if1 .left))
 
 same-length-2 : tie.Need-same-length-2 Inv-loop μ-loop
-same-length-2 c = climb-size (c .before .before .before .before .settle .ensures .climbs) ∙ c .before .before .before .before .before .before .before .before .fill .kept .0
+same-length-2 c =
+    let settled = c .before .before .before .before in
+    let filled = settled .before .before .before .before in
+    climb-size (settled .settle .ensures .climbs) ∙ filled .fill .kept .0
 
 returns-2 : tie.Need-returns-2 Inv-loop μ-loop
 returns-2 c =
-    let p = c .before .before .before .before .before .before .before .before .before .before .before .before .pre in
-    let f = c .before .before .before .before .before .before .before .before .fill in
-    none-found (f .last .0) (λ s l. f .ensures s (omega (arith, f .kept .0))) (f .kept .0 ∙ p .1) (p .0) (c .before .before .before .before .settle .ensures) (λ v l. c .before .loop .inv .1 v (omega arith))
+    let settled = c .before .before .before .before in
+    let filled = settled .before .before .before .before in
+    let p = filled .before .before .before .before .pre in
+    let f = filled .fill in
+    none-found (f .last .0) (λ s l. f .ensures s (omega (arith, f .kept .0))) (f .kept .0 ∙ p .1) (p .0)
+    (settled .settle .ensures) (λ v l. c .before .loop .inv .1 v (omega arith))
 
 pub some-loop-spec : {M : Type 1} → statement M
 some-loop-spec =
