@@ -78,7 +78,9 @@ right it ok =
     let d = and-iff (eqb (acceptedRefusal (it .chart) .number) 0) (eqb (ruleRefusal (it .rule) .number) 0) .0 (b .0) in
     let acc = accepted-only (it .chart) (eqb-true _ _ (d .0)) in
     let is : (s : ℕ) → s < states G → getD (it .marks) s 0 ≡ cond (holds G f s) 1 0 =
-    λ s l. eqb-true _ _ (every-true mark (tabulate (states G) (λ s. s)) (a .1) (mem-tabulate (states G) (λ s. s) s l)) in
+    λ s l.
+    let asked = mem-tabulate (states G) (λ s. s) s l in
+    eqb-true _ _ (every-true mark (tabulate (states G) (λ s. s)) (a .1) asked) in
     record {
       chart = acc;
       rule = eqb-true _ _ (d .1);

@@ -1,41 +1,68 @@
--- Climbing numbers: there are as many, none falls, none passes the cap, and the room under the cap shrinks.
+-- Climbing numbers: there are as many, no offer falls, none passes the limit, and the room under the limit shrinks.
 use mathlib.Core.Path.{_≡_, refl, _∙_}
 use mathlib.Core.List.{List, [], _∷_}
 use Prim.Native.Nat.{ℕ, zero, suc, _≤_, _<_}
 use native.Mathlib.Omega.{arith}
 use lib.ListN.{length, set, length-set}
+use lib.Pow.{pow-lt}
+use lib.Bits.{bitOr, or-lt, or-add-and, and-le-r}
 use Rattle.tctl.specs.Chart.{Chart}
 use Rattle.model.specs.Engine.{num}
 use Rattle.model.proofs.Numbers.{set-elim}
-use Rattle.loops.specs.Climb.{Climbs, same, more, room}
+use Rattle.loops.specs.declared.Search.{Search}
+use Rattle.loops.specs.declared.Search.the-variants.{Ranks, Batch}
+use Rattle.loops.specs.Climb.{ownBit, offer, limit, Climbs, same, more, room}
 use Rattle.loops.specs.Parts.{Numbers}
+use Rattle.loops.proofs.Bits.{own-elim}
 
-module _ {G : Chart} {cap : ℕ} where
-  pub climb-trans : {us vs ws : List ℕ} → Climbs G cap us vs → Climbs G cap vs ws → Climbs G cap us ws
+-- the bits of either and the bits of both add up to a + b, and those of both to at most b
+le-or : (a b : ℕ) → a ≤ bitOr a b
+le-or a b = omega (arith, or-add-and a b, and-le-r a b)
+
+pub offer-up : (search : Search) (low high e : ℕ) → low ≤ offer search low high e
+offer-up (Ranks cap) low high e = omega arith
+offer-up (Batch base) low high e =
+    let both = bitOr low high in omega (arith, le-or low high, le-or both (ownBit base e))
+
+own-lt : (base e : ℕ) → ownBit base e < 4294967296
+own-lt base e = own-elim (λ w. w < 4294967296) base e (λ h. omega arith) (λ j l f. pow-lt l)
+
+-- what is put together of numbers of 32 bits has 32 bits
+pub offer-limit :
+    (search : Search) (low high e : ℕ) → low ≤ limit search → high ≤ limit search →
+    offer search low high e ≤ limit search
+offer-limit (Ranks cap) low high e h k = omega arith
+offer-limit (Batch base) low high e h k =
+    let both = or-lt 32 low high (omega arith) (omega arith) in
+    omega (arith, or-lt 32 (bitOr low high) (ownBit base e) both (own-lt base e))
+
+module _ {G : Chart} {search : Search} where
+  pub climb-trans : {us vs ws : List ℕ} → Climbs G search us vs → Climbs G search vs ws → Climbs G search us ws
   climb-trans p same = p
   climb-trans p (more q r) = more (climb-trans p q) r
 
-  pub climb-size : {old vs : List ℕ} → Climbs G cap old vs → length vs ≡ length old
+  pub climb-size : {old vs : List ℕ} → Climbs G search old vs → length vs ≡ length old
   climb-size same = refl
   climb-size (more {vs} {s} {w} p r) = length-set vs s w ∙ climb-size p
 
-  pub climb-up : {old vs : List ℕ} → Climbs G cap old vs → (s : ℕ) → num old s ≤ num vs s
-  climb-up same t = omega arith
-  climb-up {old} (more {vs} {s} {w} p r) t =
-      set-elim (λ t x. num old t ≤ x) vs s w (omega (arith, climb-up p s, r .higher)) (λ u. climb-up p u) t
+  climb-limit :
+      {old vs : List ℕ} → ((s : ℕ) → num old s ≤ limit search) → Climbs G search old vs →
+      (s : ℕ) → num vs s ≤ limit search
+  climb-limit low same t = low t
+  climb-limit low (more {vs} {s} {w} p r) t =
+      let e = r .arrow .end in
+      let h = offer-limit search (num vs s) (num vs e) e (climb-limit low p s) (climb-limit low p e) in
+      set-elim (λ t x. x ≤ limit search) vs s w (omega (arith, h, r .offered)) (λ u. climb-limit low p u) t
 
-  pub climb-cap :
-      {old vs : List ℕ} → ((s : ℕ) → num old s ≤ cap) → Climbs G cap old vs → (s : ℕ) → num vs s ≤ cap
-  climb-cap low same t = low t
-  climb-cap low (more {vs} {s} {w} p r) t = set-elim (λ t x. x ≤ cap) vs s w (r .capped) (λ u. climb-cap low p u) t
-
-  pub climb-numbers : {n : ℕ} {old vs : List ℕ} → Numbers n cap old → Climbs G cap old vs → Numbers n cap vs
-  climb-numbers h p = record { size = climb-size p ∙ h .size; capped = climb-cap (h .capped) p }
+  pub climb-numbers :
+      {n : ℕ} {old vs : List ℕ} → Numbers n (limit search) old → Climbs G search old vs → Numbers n (limit search) vs
+  climb-numbers h p = record { size = climb-size p ∙ h .size; capped = climb-limit (h .capped) p }
 
 -- a number set higher takes of the room
 pub room-set :
-    (cap : ℕ) (vs : List ℕ) (s w : ℕ) → num vs s < w → w ≤ cap → s < length vs → room cap (set vs s w) < room cap vs
+    (search : Search) (vs : List ℕ) (s w : ℕ) → num vs s < w → w ≤ limit search → s < length vs →
+    room search (set vs s w) < room search vs
 unfolding room
-room-set cap [] s w h k l = absurd (let z : ⊥ = omega arith in z)
-room-set cap (v ∷ vs) zero w h k l = omega arith
-room-set cap (v ∷ vs) (suc s) w h k l = omega (arith, room-set cap vs s w h k (omega arith))
+room-set search [] s w h k l = absurd (let z : ⊥ = omega arith in z)
+room-set search (v ∷ vs) zero w h k l = omega arith
+room-set search (v ∷ vs) (suc s) w h k l = omega (arith, room-set search vs s w h k (omega arith))

@@ -1,83 +1,66 @@
 -- The answers of the functions that look for loops, from the numbers when they have settled.
-use mathlib.Core.Path.{_≡_, sym, subst, ap, _∙_}
+use mathlib.Core.Path.{_≡_, sym, subst, ap}
+use mathlib.Core.Logic.{_↔_}
 use mathlib.Core.Bool.{true, false}
 use mathlib.Core.List.{List}
-use Prim.Native.Nat.{ℕ, suc, _+_, _≤_, _<_}
+use Prim.Native.Nat.{ℕ, _+_, _-_, _/_, _%_, _^_, _≤_, _<_}
 use native.Mathlib.Omega.{arith}
-use lib.ListN.{length, set, length-set}
-use lib.Seq.{getD-set-same, getD-set-other}
-use lib.Dec.{ltb}
-use borrow.Author.Tests.{ltb-true, lt-ltb}
-use Rattle.truth.proofs.Truth.{no-test, same-test}
+use lib.ListN.{length}
+use Rattle.truth.proofs.Truth.{no-test}
 use Rattle.tctl.specs.Chart.{states}
+use Rattle.tctl.specs.Accepted.{OnZeroLoop}
 use Rattle.model.specs.Engine.{num}
 use Rattle.model.specs.ZeroLoop.{onZeroLoop}
-use Rattle.model.proofs.Numbers.{set-elim}
 use Rattle.model.proofs.ZeroLoop.{on-zero-loop-iff}
 use Rattle.outcome.specs.Refusal.{found, lowest}
 use Rattle.outcome.proofs.Lowest.{below-none, offender-found}
 use Rattle.chart.specs.Bytes.{chartOf}
-use Rattle.loops.specs.Parts.{Passed, Numbers, Settled}
-use Rattle.loops.proofs.Climb.{climb-cap}
-use Rattle.loops.proofs.Filled.{filled-le}
+use Rattle.loops.specs.declared.Search.the-variants.{Ranks, Batch}
+use Rattle.loops.specs.Parts.{Passed, Settled}
 use Rattle.loops.proofs.Passed.{has-states, drawn}
-use Rattle.loops.proofs.Loops.{on-loop-iff, some-loop, no-loop}
+use Rattle.loops.proofs.Bits.{Has}
+use Rattle.loops.proofs.Climb.{climb-numbers}
+use Rattle.loops.proofs.Cleared.{cleared-numbers}
+use Rattle.loops.proofs.Loops.{batch-iff, some-loop, no-loop}
 
--- every state has the number v
-abbrev pub All : ℕ → List ℕ → Type 0
-All v vs = (s : ℕ) → s < length vs → num vs s ≡ v
+module _ (s : List ℕ) {vs : List ℕ} (zeros : (v : ℕ) → num vs v ≡ 0) {ws : List ℕ} where
+  -- ── The states of a batch ──
 
--- ── One state's loop ──
+  module _ {base : ℕ} (x : Settled (chartOf s) (Batch base) vs ws) (g : ℕ) (from : base ≤ g) (few : g < base + 32) where
+    own-iff : (num ws g / 2 ^ (g - base) % 2 ≡ 1) ↔ OnZeroLoop (chartOf s) g
+    own-iff =
+        let iff = batch-iff base zeros (x .climbs) (x .quiet) (g - base) (omega arith) in
+        subst (λ h. Has (num ws h) (g - base) ↔ OnZeroLoop (chartOf s) h) (omega arith) iff
 
-module _ (vs : List ℕ) (zeros : All 0 vs) {n g : ℕ} (size : length vs ≡ n) (low : g < n) where
-  pub lone-numbers : Numbers n 2 (set vs g 1)
-  lone-numbers =
-      record {
-        size = length-set vs g 1 ∙ size;
-        capped = set-elim (λ s x. x ≤ 2) vs g 1 (omega arith) (λ s. omega (arith, filled-le vs zeros s));
-      }
+    pub own-bit-set : num ws g / 2 ^ (g - base) % 2 ≡ 1 → onZeroLoop (chartOf s) g ≡ true
+    own-bit-set e = on-zero-loop-iff (chartOf s) g .1 (own-iff .0 e)
 
-  pub lone-answer :
-      (s : List ℕ) {ws : List ℕ} → Settled (chartOf s) 2 (set vs g 1) ws → ltb 1 (num ws g) ≡ onZeroLoop (chartOf s) g
-  lone-answer s {ws} x =
-      let one = getD-set-same vs g 1 0 (omega arith) in
-      let others : (t : ℕ) → ¬ (t ≡ g) → num (set vs g 1) t ≡ 0 =
-      λ t h. getD-set-other vs g t 1 0 h ∙ (let z : num vs t ≡ 0 = omega (arith, filled-le vs zeros t) in z) in
-      let iff = on-loop-iff g one others (x .climbs) (x .quiet) in
-      same-test (ltb 1 (num ws g)) (onZeroLoop (chartOf s) g)
-      (λ e. iff .0 (ltb-true 1 (num ws g) e), λ w. lt-ltb 1 (num ws g) (iff .1 w))
-      (on-zero-loop-iff (chartOf s) g)
+    pub own-bit-clear : ¬ (num ws g / 2 ^ (g - base) % 2 ≡ 1) → onZeroLoop (chartOf s) g ≡ false
+    own-bit-clear h = no-test (on-zero-loop-iff (chartOf s) g) (λ w. h (own-iff .1 w))
 
--- ── Whether there is a loop ──
+  -- ── Whether there is a loop ──
 
-module _ (vs : List ℕ) (ones : All 1 vs) {n : ℕ} (size : length vs ≡ n) where
-  pub ones-numbers : Numbers n (n + 1) vs
-  ones-numbers = record { size = size; capped = λ s. omega (arith, filled-le vs ones s) }
+  module _ {n m : ℕ} (p : Passed s n m) (size : length vs ≡ n) (x : Settled (chartOf s) (Ranks n) vs ws) where
+    ranked : Settled (chartOf s) (Ranks (states (chartOf s))) vs ws
+    ranked = subst (λ k. Settled (chartOf s) (Ranks k) vs ws) (sym (has-states p)) x
 
-  module _ {s : List ℕ} {m : ℕ} (p : Passed s n m) {ws : List ℕ} (x : Settled (chartOf s) (n + 1) vs ws) where
-    settled : Settled (chartOf s) (suc (states (chartOf s))) vs ws
-    settled = subst (λ k. Settled (chartOf s) k vs ws) (omega (arith, has-states p)) x
-
-    ones-states : (t : ℕ) → t < states (chartOf s) → num vs t ≡ 1
-    ones-states t l = ones t (omega (arith, has-states p))
-
-    pub loop-found :
-        (t : ℕ) → t < n → num ws t ≡ n + 1 → true ≡ found (lowest (onZeroLoop (chartOf s)) n)
+    pub loop-found : (t : ℕ) → t < n → num ws t ≡ n → true ≡ found (lowest (onZeroLoop (chartOf s)) n)
     loop-found t l e =
-        let G = chartOf s in
-        let h = has-states p in
-        let w = some-loop (drawn p) ones-states (settled .climbs) t (omega (arith, h)) (omega (arith, h)) in
-        sym (offender-found (onZeroLoop G) (omega (arith, w .1, h)) (on-zero-loop-iff G (w .0) .1 (w .2)))
+        let low : t < states (chartOf s) = omega (arith, has-states p) in
+        let w = some-loop (drawn p) zeros (ranked .climbs) t low (omega (arith, has-states p)) in
+        let on = on-zero-loop-iff (chartOf s) (w .0) .1 (w .2) in
+        sym (offender-found (onZeroLoop (chartOf s)) (omega (arith, w .1, has-states p)) on)
 
     pub none-found :
-        ((t : ℕ) → t < n → ¬ (num ws t ≡ n + 1)) → false ≡ found (lowest (onZeroLoop (chartOf s)) n)
-    none-found h =
-        let G = chartOf s in
-        let low : (t : ℕ) → t < states G → num ws t ≤ states G =
-        λ t l. omega (arith, h t (omega (arith, has-states p)), capped t, has-states p) in
-        let off = no-loop (drawn p) ones-states (settled .climbs) (settled .quiet) low in
-        let none : (t : ℕ) → t < n → onZeroLoop G t ≡ false = λ t l. no-test (on-zero-loop-iff G t) (off t) in
-        ap found (sym (below-none (onZeroLoop G) n none))
+        ((t : ℕ) → t < n → ¬ (num ws t ≡ n)) → false ≡ found (lowest (onZeroLoop (chartOf s)) n)
+    none-found h = ap found (sym (below-none (onZeroLoop (chartOf s)) n none))
       where
-        capped : (t : ℕ) → num ws t ≤ n + 1
-        capped = climb-cap (ones-numbers .capped) (x .climbs)
+        low : (t : ℕ) → t < states (chartOf s) → num ws t < states (chartOf s)
+        low t l =
+            let capped = climb-numbers (cleared-numbers n size zeros) (x .climbs) .capped t in
+            omega (arith, h t (omega (arith, has-states p)), capped, has-states p)
+
+        none : (t : ℕ) → t < n → onZeroLoop (chartOf s) t ≡ false
+        none t l =
+            let free = no-loop (drawn p) zeros (ranked .climbs) (ranked .quiet) low t in
+            no-test (on-zero-loop-iff (chartOf s) t) free

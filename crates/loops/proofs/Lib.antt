@@ -1,9 +1,11 @@
+pub mod Passed
+pub mod Bits
+pub mod Own
 pub mod Climb
 pub mod Loops
-pub mod Passed
 pub mod Raised
 pub mod Climbed
-pub mod Filled
+pub mod Cleared
 pub mod Decided
 pub mod Row
 pub mod Chain

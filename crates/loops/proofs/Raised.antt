@@ -1,21 +1,27 @@
 -- The answers of `raise`: no number raised, or one.
-use mathlib.Core.Path.{refl}
+use mathlib.Core.Path.{_≡_, refl}
 use mathlib.Core.List.{List}
-use Prim.Native.Nat.{ℕ, suc, _≤_, _<_}
+use Prim.Native.Nat.{ℕ}
 use native.Mathlib.Omega.{arith}
 use lib.ListN.{set}
 use Rattle.model.specs.Engine.{num}
-use Rattle.loops.specs.Parts.{Rests, Raised}
+use Rattle.loops.specs.declared.Search.{Search}
+use Rattle.loops.specs.Parts.{offerAt, Raised}
+use Rattle.loops.proofs.Climb.{offer-up}
 
-module _ {cap s e : ℕ} (old : List ℕ) where
-  pub rests : Rests cap s e old → Raised cap s e 0 old old
-  rests h = record { one = omega arith; still = λ z. (refl, h); higher = λ l. absurd (let z : ⊥ = omega arith in z) }
+module _ (search : Search) (s e : ℕ) (old : List ℕ) {w : ℕ} (is : w ≡ offerAt search s e old) where
+  pub rests : w ≡ num old s → Raised search s e 0 old old
+  rests h =
+      record {
+        one = omega arith;
+        still = λ z. (refl, omega arith);
+        higher = λ l. absurd (let z : ⊥ = omega arith in z);
+      }
 
-  pub rises :
-      (w : ℕ) → num old s < w → w ≤ cap → w ≤ suc (num old e) → 1 ≤ num old e → Raised cap s e 1 old (set old s w)
-  rises w a b c d =
+  pub rises : ¬ (w ≡ num old s) → Raised search s e 1 old (set old s w)
+  rises h =
       record {
         one = omega arith;
         still = λ z. absurd (let z : ⊥ = omega arith in z);
-        higher = λ l. (w, refl, a, b, c, d);
+        higher = λ l. (rw is, omega (arith, offer-up search (num old s) (num old e) e));
       }

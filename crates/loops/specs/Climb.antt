@@ -1,35 +1,52 @@
 -- Numbers, one a state, that climb along the arrows with fewest 0: what rounds over the arrows do.
 use mathlib.Core.Path.{_≡_}
+use mathlib.Core.Bool.{cond}
 use mathlib.Core.List.{List, [], _∷_, List·Memᴰ}
-use Prim.Native.Nat.{ℕ, suc, _+_, _-_, _≤_, _<_, min}
+use Prim.Native.Nat.{ℕ, suc, _+_, _-_, _^_, _<_, min, max}
 use lib.ListN.{set}
+use lib.Dec.{leb, ltb}
+use lib.Bits.{bitOr}
 use Rattle.tctl.specs.Chart.{Chart, Arrow}
 use Rattle.model.specs.Engine.{num}
+use Rattle.loops.specs.declared.Search.{Search}
+use Rattle.loops.specs.declared.Search.the-variants.{Ranks, Batch}
 
--- an arrow with fewest 0, whose end has a number, gives its start the higher number w: at most one more than its end's,
--- and at most the cap
-pub record Raises (G : Chart) (cap : ℕ) (vs : List ℕ) (s w : ℕ) : Type 0 where
+-- the bit of state e, if it is one of the 32 states from base on
+abbrev pub ownBit : ℕ → ℕ → ℕ
+ownBit base e = cond (ltb e base) 0 (cond (leb 32 (e - base)) 0 (2 ^ (e - base)))
+
+-- what an arrow with fewest 0 makes of its start's number low, by its end e and its end's number high: one more than
+-- high, up to the cap, if that is more than low; or the bits of both, and that of e
+abbrev pub offer : Search → ℕ → ℕ → ℕ → ℕ
+offer (Ranks cap) low high e = max low (min cap (suc high))
+offer (Batch base) low high e = bitOr (bitOr low high) (ownBit base e)
+
+-- no number is above it
+abbrev pub limit : Search → ℕ
+limit (Ranks cap) = cap
+limit (Batch base) = 4294967295
+
+-- an arrow with fewest 0 gives its start s the higher number w
+pub record Raises (G : Chart) (search : Search) (vs : List ℕ) (s w : ℕ) : Type 0 where
   pub arrow : Arrow
   pub drawn : List·Memᴰ arrow (G .arrows)
   pub leaves : arrow .start ≡ s
   pub instant : arrow .fewest ≡ 0
-  pub some : 1 ≤ num vs (arrow .end)
+  pub offered : w ≡ offer search (num vs s) (num vs (arrow .end)) (arrow .end)
   pub higher : num vs s < w
-  pub capped : w ≤ cap
-  pub close : w ≤ suc (num vs (arrow .end))
 
 -- the numbers that such raises make of the old ones
-pub data Climbs (G : Chart) (cap : ℕ) (old : List ℕ) : List ℕ → Type 0 where
-  same : Climbs G cap old old
-  more : {vs : List ℕ} {s w : ℕ} → Climbs G cap old vs → Raises G cap vs s w → Climbs G cap old (set vs s w)
+pub data Climbs (G : Chart) (search : Search) (old : List ℕ) : List ℕ → Type 0 where
+  same : Climbs G search old old
+  more : {vs : List ℕ} {s w : ℕ} → Climbs G search old vs → Raises G search vs s w → Climbs G search old (set vs s w)
 
 -- no arrow raises a number further
-abbrev pub Quiet : Chart → ℕ → List ℕ → Type 0
-Quiet G cap vs =
-    (a : Arrow) → List·Memᴰ a (G .arrows) → a .fewest ≡ 0 → 1 ≤ num vs (a .end) →
-    min cap (suc (num vs (a .end))) ≤ num vs (a .start)
+abbrev pub Quiet : Chart → Search → List ℕ → Type 0
+Quiet G search vs =
+    (a : Arrow) → List·Memᴰ a (G .arrows) → a .fewest ≡ 0 →
+    offer search (num vs (a .start)) (num vs (a .end)) (a .end) ≡ num vs (a .start)
 
--- how far the numbers are from the cap, together
-unfoldable pub room : ℕ → List ℕ → ℕ
-room cap [] = 0
-room cap (v ∷ vs) = cap - v + room cap vs
+-- how far the numbers are from the limit, together
+unfoldable pub room : Search → List ℕ → ℕ
+room search [] = 0
+room search (v ∷ vs) = limit search - v + room search vs

@@ -1,104 +1,139 @@
 // Refusal 19: loops of arrows whose fewest are all 0, decided on lent numbers, one a state. The numbers climb along
-// those arrows: a state's number is one more than that of the state an arrow leads to, up to a cap.
+// those arrows until no arrow raises one.
 ghost use mathlib.Core.Path.{_≡_};
 ghost use mathlib.Core.List.{[], _∷_};
-ghost use Prim.Native.Nat.{ℕ, _+_, _≤_, _<_};
+ghost use Prim.Native.Nat.{ℕ, suc, _+_, _≤_, _<_, min, max};
 ghost use lib.ListN.{length};
-ghost use Rattle.outcome.specs.Refusal.{found, lowest, first};
+ghost use Rattle.outcome.specs.Refusal.{refuse, found, lowest, first};
 ghost use Rattle.model.specs.Engine.{num};
 ghost use Rattle.model.specs.ZeroLoop.{onZeroLoop};
 ghost use Rattle.chart.specs.Bytes.{chartOf};
 ghost use Rattle.loops.specs.Refusal.{loopRow, acceptedRefusal};
-ghost use Rattle.loops.specs.Parts.{Passed, Numbers, Raised, Climbed, Settled};
+ghost use Rattle.loops.specs.Climb.{ownBit, offer, limit};
+ghost use Rattle.loops.specs.Parts.{Passed, Numbers, Raised, Climbed, Settled, Batched};
 use outcome::Outcome;
 
+// What a state's number is: how many arrows with fewest 0 follow one another from it, up to a cap; or to which of the
+// 32 states from a base on such arrows lead, a bit each.
+pub enum Search {
+    Ranks(u32),
+    Batch(usize),
+}
+
+// The bit of state e, if it is one of the 32 states from base on.
+fn own_bit(base: usize, e: usize) -> u32
+    ensures { λ r. ⌜ r ≡ ownBit base e ⌝ }
+{
+    if e < base {
+        return 0;
+    }
+    let j = e - base;
+    if 32 <= j {
+        return 0;
+    }
+    1u32 << j
+}
+
+// One more than high, up to the cap, or low if that is more.
+fn rank(cap: u32, low: u32, high: u32) -> u32
+    requires { ⌜ high ≤ cap ⌝ }
+    ensures { λ r. ⌜ r ≡ max low (min cap (suc high)) ⌝ }
+{
+    if high < low {
+        return low;
+    }
+    if cap <= high {
+        return cap;
+    }
+    high + 1
+}
+
+// What an arrow with fewest 0 makes of its start's number low, by its end e and its end's number high.
+fn offered(search: Search, low: u32, high: u32, e: usize) -> u32
+    requires { ⌜ high ≤ limit search ⌝ }
+    ensures { λ r. ⌜ r ≡ offer search low high e ⌝ }
+{
+    match search {
+        Search::Ranks(cap) => rank(cap, low, high),
+        Search::Batch(base) => low | high | own_bit(base, e),
+    }
+}
+
 // The arrow from s to e, with fewest 0. Answers how many numbers it raised.
-fn raise(numbers: &mut [u32], s: usize, e: usize, cap: u32) -> u32
-    requires { ⌜ (s < length (now numbers)) × (e < length (now numbers)) × (cap < 65536) ⌝ }
-    ensures { λ r. ⌜ Raised cap s e r (now (numbers .entry)) (now (numbers .exit)) ⌝ }
+fn raise(search: Search, numbers: &mut [u32], s: usize, e: usize) -> u32
+    requires { ⌜ (s < length (now numbers)) × (e < length (now numbers)) ⌝ }
+    requires { ⌜ ((v : ℕ) → num (now numbers) v ≤ limit search) ⌝ }
+    ensures { λ r. ⌜ Raised search s e r (now (numbers .entry)) (now (numbers .exit)) ⌝ }
 {
     let low = numbers[s];
     let high = numbers[e];
-    if high == 0 {
+    let w = offered(search, low, high, e);
+    if w == low {
         return 0;
     }
-    if high < low {
-        return 0;
-    }
-    if cap <= low {
-        return 0;
-    }
-    if cap <= high {
-        numbers[s] = cap;
-        return 1;
-    }
-    numbers[s] = high + 1;
+    numbers[s] = w;
     1
 }
 
 // Arrow i, if its fewest is 0.
-fn climb_arrow(chart: &[u8], n: usize, m: usize, i: usize, cap: u32, numbers: &mut [u32]) -> u32
-    requires { ⌜ Passed (now chart) n m × (i < m) × Numbers n cap (now numbers) × (cap < 65536) ⌝ }
-    ensures { λ r. ⌜ Climbed (now (chart .entry)) cap i (i + 1) r (now (numbers .entry)) (now (numbers .exit)) ⌝ }
+fn climb_arrow(
+    search: Search,
+    chart: &[u8],
+    n: usize,
+    m: usize,
+    i: usize,
+    numbers: &mut [u32],
+) -> u32
+    requires { ⌜ Passed (now chart) n m × (i < m) × Numbers n (limit search) (now numbers) ⌝ }
+    ensures { λ r. ⌜ Climbed (now (chart .entry)) search i (i + 1) r (now (numbers .entry)) (now (numbers .exit)) ⌝ }
 {
     let a = chart::arrow_at(chart, n, i);
     if a.fewest != 0 {
         return 0;
     }
-    raise(numbers, a.start, a.end, cap)
+    raise(search, numbers, a.start, a.end)
 }
 
 // One round over the arrows.
-fn climb_round(chart: &[u8], n: usize, m: usize, cap: u32, numbers: &mut [u32]) -> u32
-    requires { ⌜ Passed (now chart) n m × Numbers n cap (now numbers) × (cap < 65536) ⌝ }
-    ensures { λ r. ⌜ Climbed (now (chart .entry)) cap 0 m r (now (numbers .entry)) (now (numbers .exit)) ⌝ }
+fn climb_round(search: Search, chart: &[u8], n: usize, m: usize, numbers: &mut [u32]) -> u32
+    requires { ⌜ Passed (now chart) n m × Numbers n (limit search) (now numbers) ⌝ }
+    ensures { λ r. ⌜ Climbed (now (chart .entry)) search 0 m r (now (numbers .entry)) (now (numbers .exit)) ⌝ }
 {
     let mut raised = 0;
     let mut i = 0;
     while i < m {
-        raised += climb_arrow(chart, n, m, i, cap, numbers);
+        raised += climb_arrow(search, chart, n, m, i, numbers);
         i += 1;
     }
     raised
 }
 
 // Rounds until none raises a number.
-fn settle(chart: &[u8], n: usize, m: usize, cap: u32, numbers: &mut [u32])
-    requires { ⌜ Passed (now chart) n m × Numbers n cap (now numbers) × (cap < 65536) ⌝ }
-    ensures { λ _. ⌜ Settled (chartOf (now (chart .entry))) cap (now (numbers .entry)) (now (numbers .exit)) ⌝ }
+fn settle(search: Search, chart: &[u8], n: usize, m: usize, numbers: &mut [u32])
+    requires { ⌜ Passed (now chart) n m × Numbers n (limit search) (now numbers) ⌝ }
+    ensures { λ _. ⌜ Settled (chartOf (now (chart .entry))) search (now (numbers .entry)) (now (numbers .exit)) ⌝ }
 {
-    while climb_round(chart, n, m, cap, numbers) != 0 {}
+    while climb_round(search, chart, n, m, numbers) != 0 {}
 }
 
-fn fill(numbers: &mut [u32], v: u32)
-    ensures { λ _. ⌜ ((s : ℕ) → s < length (now (numbers .entry)) → num (now (numbers .exit)) s ≡ v) ⌝ }
+fn clear(numbers: &mut [u32])
+    ensures { λ _. ⌜ ((s : ℕ) → num (now (numbers .exit)) s ≡ 0) ⌝ }
 {
     let mut i = 0;
     while i < numbers.len() {
-        numbers[i] = v;
+        numbers[i] = 0;
         i += 1;
     }
 }
 
-// Whether state g is on a loop: only g has a number, 1, and it climbs just where arrows lead back to g.
-fn on_loop(chart: &[u8], n: usize, m: usize, g: usize, numbers: &mut [u32]) -> bool
-    requires { ⌜ Passed (now chart) n m × (g < n) × (length (now numbers) ≡ n) ⌝ }
-    ensures { λ r. ⌜ r ≡ onZeroLoop (chartOf (now (chart .entry))) g ⌝ }
-{
-    fill(numbers, 0);
-    numbers[g] = 1;
-    settle(chart, n, m, 2, numbers);
-    1 < numbers[g]
-}
-
-// Whether there is a loop: only round a loop do numbers climb from 1 to more than n.
+// Whether there is a loop: only round a loop do n arrows with fewest 0 follow one another.
 fn some_loop(chart: &[u8], n: usize, m: usize, numbers: &mut [u32]) -> bool
     requires { ⌜ Passed (now chart) n m × (length (now numbers) ≡ n) ⌝ }
     ensures { λ r. ⌜ r ≡ found (lowest (onZeroLoop (chartOf (now (chart .entry)))) n) ⌝ }
 {
-    let cap = n as u32 + 1;
-    fill(numbers, 1);
-    settle(chart, n, m, cap, numbers);
+    let cap = n as u32;
+    clear(numbers);
+    settle(Search::Ranks(cap), chart, n, m, numbers);
     let mut s = 0;
     while s < n {
         if numbers[s] == cap {
@@ -109,17 +144,53 @@ fn some_loop(chart: &[u8], n: usize, m: usize, numbers: &mut [u32]) -> bool
     false
 }
 
-// The lowest state on a loop.
+// The lowest state on a loop, of those before end: a state's own bit says that arrows lead from it back to it.
+fn batch_refusal(
+    chart: &[u8],
+    n: usize,
+    m: usize,
+    base: usize,
+    end: usize,
+    numbers: &mut [u32],
+) -> Outcome
+    requires { ⌜ Passed (now chart) n m × (length (now numbers) ≡ n) × Batched (chartOf (now chart)) n base end ⌝ }
+    ensures { λ r. ⌜ r ≡ first (refuse 19 (lowest (onZeroLoop (chartOf (now (chart .entry)))) end) ∷ []) ⌝ }
+{
+    clear(numbers);
+    settle(Search::Batch(base), chart, n, m, numbers);
+    let mut g = base;
+    while g < end {
+        let j = g - base;
+        if (numbers[g] >> j) % 2 == 1 {
+            return outcome::refused(19, g as u32);
+        }
+        g += 1;
+    }
+    outcome::accepted()
+}
+
+fn nearer(a: usize, b: usize) -> usize
+    ensures { λ r. ⌜ r ≡ min a b ⌝ }
+{
+    if a < b {
+        return a;
+    }
+    b
+}
+
+// The lowest state on a loop, 32 states at a time.
 fn lowest_on_loop(chart: &[u8], n: usize, m: usize, numbers: &mut [u32]) -> Outcome
     requires { ⌜ Passed (now chart) n m × (length (now numbers) ≡ n) ⌝ }
     ensures { λ r. ⌜ r ≡ first (loopRow (now (chart .entry)) ∷ []) ⌝ }
 {
-    let mut g = 0;
-    while g < n {
-        if on_loop(chart, n, m, g, numbers) {
-            return outcome::refused(19, g as u32);
+    let mut base = 0;
+    while base < n {
+        let end = nearer(base + 32, n);
+        let batch = batch_refusal(chart, n, m, base, end, numbers);
+        if batch.number != 0 {
+            return batch;
         }
-        g += 1;
+        base = end;
     }
     outcome::accepted()
 }

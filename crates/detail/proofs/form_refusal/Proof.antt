@@ -1,3 +1,4 @@
+-- An answer for each condition of the row.
 use mathlib.Core.Path.{sym, ap, _∙_}
 use Prim.Native.Nat.{_+_, _*_}
 use native.Mathlib.Omega.{arith}
@@ -7,8 +8,6 @@ use Rattle.head.proofs.Passed.{head-passed}
 use Rattle.detail.proofs.Form.{form-refuses, form-passes, unheaded, formed}
 use Rattle.detail.proofs.form_refusal.Statement.{statement}
 use Rattle.detail.proofs.form_refusal.Tie as tie
-
--- An answer for each condition of the row.
 
 head-refusal-requires : tie.Need-head-refusal-requires
 head-refusal-requires c κs = search needs

@@ -1,4 +1,4 @@
--- Arrow i raises nothing if its fewest is not 0, and is offered to `raise` if it is.
+-- Arrow i raises nothing if its fewest is not 0, and is tried by `raise` if it is.
 use mathlib.Core.Path.{ap}
 use native.Mathlib.Omega.{arith}
 use borrow.Author.Needs.{needs}
@@ -23,7 +23,7 @@ raise-requires c κs =
     let e = c .before .before .before .arrow-at .ensures .0 in
     let f = ap (λ (w : ArrowWords). w .start) e in
     let g = ap (λ (w : ArrowWords). w .end) e in
-    (omega (arith, x .0, p .2 .size), omega (arith, x .1, p .2 .size), p .3)
+    ((omega (arith, x .0, p .2 .size), omega (arith, x .1, p .2 .size)), p .2 .capped)
 
 same-length : tie.Need-same-length
 same-length c = search needs
@@ -35,7 +35,7 @@ returns-2 c =
     let read = instant .before .before in
     let p = read .before .before .before .pre in
     let e = read .arrow-at .ensures .0 in
-    climbed-one (p .0) (p .1) (p .2 .size) e (instant .if1 .left) (raised .raise .ensures)
+    climbed-one (p .0) (p .1) (p .2) e (instant .if1 .left) (raised .raise .ensures)
 
 pub climb-arrow-spec : {M : Type 1} → statement M
 climb-arrow-spec =

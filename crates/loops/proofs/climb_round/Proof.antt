@@ -1,3 +1,4 @@
+-- Invariant: the first i arrows were tried.
 use mathlib.Core.Path.{subst}
 use Prim.Native.Nat.{ℕ, _≤_, _-_}
 use native.Mathlib.Omega.{arith}
@@ -9,13 +10,12 @@ use Rattle.loops.proofs.Climbed.{climbed-none, climbed-more}
 use Rattle.loops.proofs.climb_round.Statement.{statement}
 use Rattle.loops.proofs.climb_round.Tie as tie
 
--- Invariant: the first i arrows were offered.
-
 abbrev Inv-loop : tie.InvT-loop
-Inv-loop chart n m cap numbers₀ raised₀ i₀ numbers raised i = (i ≤ m) × Climbed chart cap 0 i raised numbers₀ numbers
+Inv-loop search chart n m numbers₀ raised₀ i₀ numbers raised i =
+    (i ≤ m) × Climbed chart search 0 i raised numbers₀ numbers
 
 abbrev μ-loop : tie.MeasureT-loop
-μ-loop chart n m cap numbers₀ raised₀ i₀ numbers raised i = m - i
+μ-loop search chart n m numbers₀ raised₀ i₀ numbers raised i = m - i
 
 loop-holds : tie.Need-loop-holds Inv-loop μ-loop
 loop-holds c = (omega arith, climbed-none)
@@ -24,7 +24,7 @@ climb-arrow-requires : tie.Need-climb-arrow-requires Inv-loop μ-loop
 climb-arrow-requires c κs =
     let p = c .before .before .before .before .before .pre in
     let inv = c .before .before .loop .inv in
-    (p .0, c .before .loop-test .taken, climb-numbers (p .1) (inv .1 .climbs), p .2)
+    (p .0, c .before .loop-test .taken, climb-numbers (p .1) (inv .1 .climbs))
 
 add-raised : tie.Need-add-raised Inv-loop μ-loop
 add-raised c =
@@ -53,7 +53,7 @@ returns : tie.Need-returns Inv-loop μ-loop
 returns c =
     let a = c .before .before .before .before .args in
     let loop = c .before .loop in
-    subst (λ (k : ℕ). Climbed (now (a .chart)) (a .cap) 0 k (loop .raised) (now (a .numbers)) (loop .numbers))
+    subst (λ (k : ℕ). Climbed (now (a .chart)) (a .search) 0 k (loop .raised) (now (a .numbers)) (loop .numbers))
     (omega arith) (loop .inv .1)
 
 pub climb-round-spec : {M : Type 1} → statement M

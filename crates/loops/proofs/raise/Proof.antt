@@ -1,5 +1,4 @@
--- An answer for each return: no number raised, or one.
-use native.Mathlib.Omega.{arith}
+-- The offer is the number already, or it is more.
 use borrow.Author.Needs.{needs}
 use Rattle.loops.proofs.Raised.{rests, rises}
 use Rattle.loops.proofs.raise.Statement.{statement}
@@ -17,14 +16,11 @@ mul-high c = search needs
 slice-read-high : tie.Need-slice-read-high
 slice-read-high c = search needs
 
+offered-requires : tie.Need-offered-requires
+offered-requires c κs = c .before .before .before .pre .1 _
+
 returns : tie.Need-returns
-returns c = rests _ (λ k. omega arith)
-
-returns-2 : tie.Need-returns-2
-returns-2 c = rests _ (λ k. omega arith)
-
-returns-3 : tie.Need-returns-3
-returns-3 c = rests _ (λ k. omega arith)
+returns c = rests _ _ _ _ (c .before .offered .ensures) (c .if1 .taken)
 
 mul-numbers : tie.Need-mul-numbers
 mul-numbers c = search needs
@@ -35,23 +31,8 @@ slice-write-numbers c = search needs
 same-length : tie.Need-same-length
 same-length c = search needs
 
-returns-4 : tie.Need-returns-4
-returns-4 c = rises _ _ (omega arith) (omega arith) (omega arith) (omega arith)
-
-add-numbers : tie.Need-add-numbers
-add-numbers c = search needs
-
-mul-numbers-2 : tie.Need-mul-numbers-2
-mul-numbers-2 c = search needs
-
-slice-write-numbers-2 : tie.Need-slice-write-numbers-2
-slice-write-numbers-2 c = search needs
-
-same-length-2 : tie.Need-same-length-2
-same-length-2 c = search needs
-
-returns-5 : tie.Need-returns-5
-returns-5 c = rises _ _ (omega arith) (omega arith) (omega arith) (omega arith)
+returns-2 : tie.Need-returns-2
+returns-2 c = rises _ _ _ _ (c .before .offered .ensures) (c .if1 .left)
 
 pub raise-spec : {M : Type 1} → statement M
 raise-spec =
@@ -61,15 +42,9 @@ raise-spec =
     slice-read-low
     mul-high
     slice-read-high
+    offered-requires
     returns
-    returns-2
-    returns-3
     mul-numbers
     slice-write-numbers
     same-length
-    returns-4
-    add-numbers
-    mul-numbers-2
-    slice-write-numbers-2
-    same-length-2
-    returns-5)
+    returns-2)

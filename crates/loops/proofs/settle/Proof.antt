@@ -1,3 +1,4 @@
+-- Invariant: the numbers are those that rounds made of the first. Each further round leaves less room under the limit.
 use native.Mathlib.Omega.{arith}
 use Rattle.chart.specs.Bytes.{chartOf}
 use Rattle.loops.specs.Climb.{Climbs, same, room}
@@ -6,13 +7,11 @@ use Rattle.loops.proofs.Climbed.{climbed-quiet}
 use Rattle.loops.proofs.settle.Statement.{statement}
 use Rattle.loops.proofs.settle.Tie as tie
 
--- Invariant: the numbers are those that rounds made of the first. Each further round leaves less room under the cap.
-
 abbrev Inv-loop : tie.InvT-loop
-Inv-loop chart n m cap numbers₀ numbers = Climbs (chartOf chart) cap numbers₀ numbers
+Inv-loop search chart n m numbers₀ numbers = Climbs (chartOf chart) search numbers₀ numbers
 
 abbrev μ-loop : tie.MeasureT-loop
-μ-loop chart n m cap numbers₀ numbers = room cap numbers
+μ-loop search chart n m numbers₀ numbers = room search numbers
 
 loop-holds : tie.Need-loop-holds Inv-loop μ-loop
 loop-holds c = same
@@ -20,7 +19,7 @@ loop-holds c = same
 climb-round-requires : tie.Need-climb-round-requires Inv-loop μ-loop
 climb-round-requires c κs =
     let p = c .before .before .before .before .pre in
-    (p .0, climb-numbers (p .1) (c .before .loop .inv), p .2)
+    (p .0, climb-numbers (p .1) (c .before .loop .inv))
 
 loop-less : tie.Need-loop-less Inv-loop μ-loop
 loop-less c = c .before .before .before .climb-round .ensures .falls (omega arith)
