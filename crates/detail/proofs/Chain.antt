@@ -18,7 +18,7 @@ use Rattle.loops.specs.Refusal.{loopRow, acceptedTable, acceptedRefusal}
 use Rattle.loops.proofs.Accepted.{accepted-numbered}
 use Rattle.detail.specs.Bytes.{entry}
 use Rattle.detail.specs.Refusals.{mapTable, mapCheckTable, mapRefusal}
-use Rattle.detail.specs.Parts.{formRow, entryRow, labelRow, coverRow, Mapped}
+use Rattle.detail.specs.Parts.{formRow, entryRow, underRows, Mapped}
 use Rattle.detail.proofs.Format.{format-iff}
 
 -- a chart's own numbers leave room for 40 more
@@ -59,17 +59,19 @@ module _ (d o p : List ℕ) where
         let passes = both (shift-passes 40 (acceptedTable o) (accepted-numbered o) f w) in
         part-passes (acceptedTable d ++ shifted 40 (acceptedTable o)) (mapTable d o p) tt passes refl
 
-  -- ── The map, with n detail states, k overview states and m detail arrows ──
+  -- ── The map, with n detail states, m detail arrows and k overview states ──
 
-  module _ {n : ℕ} (en : n ≡ stateCount d) where
-    table : {k m : ℕ} → k ≡ stateCount o → m ≡ arrowCount d →
-        first (formRow p n ∷ entryRow p n k ∷ labelRow d o p n ∷ coverRow d o p m ∷ []) ≡ first (mapTable d o p)
+  module _ {n m : ℕ} (en : n ≡ stateCount d) (em : m ≡ arrowCount d) where
+    table :
+        {k : ℕ} → k ≡ stateCount o →
+        first (formRow p n ∷ entryRow p n k ∷ underRows d o p n m) ≡ first (mapTable d o p)
     unfolding mapTable
-    table ek em = rw (en, ek, em) refl
+    table ek = rw (en, em, ek) refl
 
     module _ {f : Outcome} (form : f ≡ first (formRow p n ∷ [])) where
       pub form-stops : (f .number ≡ 0 → ⊥) → f ≡ first (mapTable d o p)
-      form-stops h = part-refuses (formRow p n ∷ []) (_ ∷ _ ∷ _ ∷ []) form h ∙ table refl refl
+      form-stops h =
+          part-refuses (formRow p n ∷ []) (entryRow p n (stateCount o) ∷ underRows d o p n m) form h ∙ table refl
 
       module _ (z : f .number ≡ 0) where
         pub map-whole : 7 + 2 * n ≤ length p
@@ -78,11 +80,12 @@ module _ (d o p : List ℕ) where
             omega (arith, x .whole, x .count)
 
         module _ {k : ℕ} (ek : k ≡ stateCount o) {g : Outcome} (entries : g ≡ first (entryRow p n k ∷ [])) where
+          -- row 20 is passed
+          rest : {r : Outcome} → r ≡ first (entryRow p n k ∷ underRows d o p n m) → r ≡ first (mapTable d o p)
+          rest e = part-passes (formRow p n ∷ []) (entryRow p n k ∷ underRows d o p n m) tt form z e ∙ table ek
+
           pub entries-stop : (g .number ≡ 0 → ⊥) → g ≡ first (mapTable d o p)
-          entries-stop h =
-              part-passes (formRow p n ∷ []) (_ ∷ _ ∷ _ ∷ []) tt form z
-              (part-refuses (entryRow p n k ∷ []) (_ ∷ _ ∷ []) entries h) ∙
-              table ek refl
+          entries-stop h = rest (part-refuses (entryRow p n k ∷ []) (underRows d o p n m) entries h)
 
           module _ (y : g .number ≡ 0) where
             pub mapped : Mapped p n k
@@ -93,17 +96,5 @@ module _ (d o p : List ℕ) where
                   inside = λ v l. leb-false k (entry p v) (none-below (λ v. leb k (entry p v)) n unmet v l);
                 }
 
-            module _ {m : ℕ} (em : m ≡ arrowCount d) {h : Outcome} (labels : h ≡ first (labelRow d o p n ∷ [])) where
-              -- rows 20 and 21 are passed
-              rest : {r : Outcome} → r ≡ first (labelRow d o p n ∷ coverRow d o p m ∷ []) → r ≡ first (mapTable d o p)
-              rest e =
-                  part-passes (formRow p n ∷ []) (_ ∷ _ ∷ _ ∷ []) tt form z
-                  (part-passes (entryRow p n k ∷ []) (_ ∷ _ ∷ []) tt entries y e) ∙
-                  table ek em
-
-              pub labels-stop : (h .number ≡ 0 → ⊥) → h ≡ first (mapTable d o p)
-              labels-stop x = rest (part-refuses (labelRow d o p n ∷ []) (coverRow d o p m ∷ []) labels x)
-
-              pub cover-last :
-                  {r : Outcome} → h .number ≡ 0 → r ≡ first (coverRow d o p m ∷ []) → r ≡ first (mapTable d o p)
-              cover-last x e = rest (part-passes (labelRow d o p n ∷ []) (coverRow d o p m ∷ []) tt labels x e)
+            pub under-last : {r : Outcome} → r ≡ first (underRows d o p n m) → r ≡ first (mapTable d o p)
+            under-last e = rest (part-passes (entryRow p n k ∷ []) (underRows d o p n m) tt entries y e)

@@ -1,7 +1,7 @@
 -- The rows of the map's table as the functions test them, and what those functions ask of the bytes. The detail chart d
 -- has n states and m arrows, the overview o has k states and l arrows.
 use mathlib.Core.Bool.{not}
-use mathlib.Core.List.{List}
+use mathlib.Core.List.{List, [], _∷_}
 use Prim.Native.Nat.{ℕ, _+_, _*_, _≤_, _<_}
 use lib.ListN.{length}
 use lib.Dec.{eqb, leb}
@@ -26,6 +26,10 @@ labelRow d o p n = refuse 22 (lowest (λ v. not (eqb (labelWord d v) (labelWord 
 -- row 23
 abbrev pub coverRow : List ℕ → List ℕ → List ℕ → ℕ → Row
 coverRow d o p m = refuse 23 (lowest (λ i. not (coveredAt d o p i)) m)
+
+-- rows 22 and 23
+abbrev pub underRows : List ℕ → List ℕ → List ℕ → ℕ → ℕ → List Row
+underRows d o p n m = labelRow d o p n ∷ coverRow d o p m ∷ []
 
 -- the map has an entry for each of n detail states, and each names one of k overview states
 pub record Mapped (p : List ℕ) (n k : ℕ) : Type 0 where

@@ -28,8 +28,8 @@ module _ (s : List ℕ) {r : Outcome} (e : r ≡ chartRefusal s) where
     pub chart-small : stateCount s ≤ 256
     chart-small = checked s (part-zero (chartTable s) e z) .shape .few-states
 
-    pub chart-passed : {n m : ℕ} → n ≡ stateCount s → m ≡ arrowCount s → Passed s n m
-    chart-passed a b = record { states = a; arrows = b; unrefused = part-zero (chartTable s) e z }
+    pub chart-counted : {n m : ℕ} → n ≡ stateCount s → m ≡ arrowCount s → Passed s n m
+    chart-counted a b = record { states = a; arrows = b; unrefused = part-zero (chartTable s) e z }
 
     pub loop-next : {x : Outcome} → x ≡ first (loopRow s ∷ []) → x ≡ acceptedRefusal s
     unfolding acceptedTable chartTable

@@ -15,7 +15,7 @@ use outcome::Outcome;
 
 // What a state's number is: how many arrows with fewest 0 follow one another from it, up to a cap; or to which of the
 // 32 states from a base on such arrows lead, a bit each.
-pub enum Search {
+enum Search {
     Ranks(u32),
     Batch(usize),
 }

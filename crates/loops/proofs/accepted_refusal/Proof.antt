@@ -2,7 +2,7 @@
 use mathlib.Core.Path.{sym}
 use native.Mathlib.Omega.{arith}
 use borrow.Author.Needs.{needs}
-use Rattle.loops.proofs.Chain.{prefix-size, chart-refuses, chart-whole, chart-small, chart-passed, loop-next}
+use Rattle.loops.proofs.Chain.{prefix-size, chart-refuses, chart-whole, chart-small, chart-counted, loop-next}
 use Rattle.loops.proofs.accepted_refusal.Statement.{statement}
 use Rattle.loops.proofs.accepted_refusal.Tie as tie
 
@@ -41,7 +41,7 @@ loop-refusal-requires c κs =
     let z = passed .if1 .left in
     let n = counted .state-count in
     let small = chart-small _ e z in (
-      chart-passed _ e z (n .ensures .0) (c .before .arrow-count .ensures .0),
+      chart-counted _ e z (n .ensures .0) (c .before .arrow-count .ensures .0),
       prefix-size (n .result) _ (omega (arith, small, n .ensures .0)),
     )
 
