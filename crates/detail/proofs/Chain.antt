@@ -18,7 +18,7 @@ use Rattle.loops.specs.Refusal.{loopRow, acceptedTable, acceptedRefusal}
 use Rattle.loops.proofs.Accepted.{accepted-numbered}
 use Rattle.detail.specs.Bytes.{entry}
 use Rattle.detail.specs.Refusals.{mapTable, mapCheckTable, mapRefusal}
-use Rattle.detail.specs.Parts.{formRow, entryRow, underRows, Mapped}
+use Rattle.detail.specs.Parts.{formRow, entryRow, mappedRows, Mapped}
 use Rattle.detail.proofs.Format.{format-iff}
 
 -- a chart's own numbers leave room for 40 more
@@ -61,40 +61,32 @@ module _ (d o p : List ℕ) where
 
   -- ── The map, with n detail states, m detail arrows and k overview states ──
 
-  module _ {n m : ℕ} (en : n ≡ stateCount d) (em : m ≡ arrowCount d) where
+  module _ {n m k : ℕ} {f : Outcome} (form : f ≡ first (formRow p n ∷ [])) where
     table :
-        {k : ℕ} → k ≡ stateCount o →
-        first (formRow p n ∷ entryRow p n k ∷ underRows d o p n m) ≡ first (mapTable d o p)
+        n ≡ stateCount d → m ≡ arrowCount d → k ≡ stateCount o →
+        first (formRow p n ∷ mappedRows d o p n m k) ≡ first (mapTable d o p)
     unfolding mapTable
-    table ek = rw (en, em, ek) refl
+    table en em ek = rw (en, em, ek) refl
 
-    module _ {f : Outcome} (form : f ≡ first (formRow p n ∷ [])) where
+    module _ (en : n ≡ stateCount d) (em : m ≡ arrowCount d) (ek : k ≡ stateCount o) where
       pub form-stops : (f .number ≡ 0 → ⊥) → f ≡ first (mapTable d o p)
-      form-stops h =
-          part-refuses (formRow p n ∷ []) (entryRow p n (stateCount o) ∷ underRows d o p n m) form h ∙ table refl
+      form-stops h = part-refuses (formRow p n ∷ []) (mappedRows d o p n m k) form h ∙ table en em ek
 
-      module _ (z : f .number ≡ 0) where
-        pub map-whole : 7 + 2 * n ≤ length p
-        map-whole =
-            let x = format-iff p n .0 (unmet-at (formRow p n ∷ []) tt (part-zero (formRow p n ∷ []) form z) 0) in
-            omega (arith, x .whole, x .count)
+      pub mapped-next :
+          {r : Outcome} → f .number ≡ 0 → r ≡ first (mappedRows d o p n m k) → r ≡ first (mapTable d o p)
+      mapped-next z e = part-passes (formRow p n ∷ []) (mappedRows d o p n m k) tt form z e ∙ table en em ek
 
-        module _ {k : ℕ} (ek : k ≡ stateCount o) {g : Outcome} (entries : g ≡ first (entryRow p n k ∷ [])) where
-          -- row 20 is passed
-          rest : {r : Outcome} → r ≡ first (entryRow p n k ∷ underRows d o p n m) → r ≡ first (mapTable d o p)
-          rest e = part-passes (formRow p n ∷ []) (entryRow p n k ∷ underRows d o p n m) tt form z e ∙ table ek
+module _ (p : List ℕ) (n : ℕ) where
+  pub map-whole : {f : Outcome} → f ≡ first (formRow p n ∷ []) → f .number ≡ 0 → 7 + 2 * n ≤ length p
+  map-whole form z =
+      let x = format-iff p n .0 (unmet-at (formRow p n ∷ []) tt (part-zero (formRow p n ∷ []) form z) 0) in
+      omega (arith, x .whole, x .count)
 
-          pub entries-stop : (g .number ≡ 0 → ⊥) → g ≡ first (mapTable d o p)
-          entries-stop h = rest (part-refuses (entryRow p n k ∷ []) (underRows d o p n m) entries h)
-
-          module _ (y : g .number ≡ 0) where
-            pub mapped : Mapped p n k
-            mapped =
-                let unmet = unmet-at (entryRow p n k ∷ []) tt (part-zero (entryRow p n k ∷ []) entries y) 0 in
-                record {
-                  whole = map-whole;
-                  inside = λ v l. leb-false k (entry p v) (none-below (λ v. leb k (entry p v)) n unmet v l);
-                }
-
-            pub under-last : {r : Outcome} → r ≡ first (underRows d o p n m) → r ≡ first (mapTable d o p)
-            under-last e = rest (part-passes (entryRow p n k ∷ []) (underRows d o p n m) tt entries y e)
+  pub mapped :
+      {k : ℕ} {g : Outcome} → 7 + 2 * n ≤ length p → g ≡ first (entryRow p n k ∷ []) → g .number ≡ 0 → Mapped p n k
+  mapped {k} whole entries z =
+      let unmet = unmet-at (entryRow p n k ∷ []) tt (part-zero (entryRow p n k ∷ []) entries z) 0 in
+      record {
+        whole = whole;
+        inside = λ v l. leb-false k (entry p v) (none-below (λ v. leb k (entry p v)) n unmet v l);
+      }

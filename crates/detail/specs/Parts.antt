@@ -31,6 +31,10 @@ coverRow d o p m = refuse 23 (lowest (λ i. not (coveredAt d o p i)) m)
 abbrev pub underRows : List ℕ → List ℕ → List ℕ → ℕ → ℕ → List Row
 underRows d o p n m = labelRow d o p n ∷ coverRow d o p m ∷ []
 
+-- rows 21 to 23
+abbrev pub mappedRows : List ℕ → List ℕ → List ℕ → ℕ → ℕ → ℕ → List Row
+mappedRows d o p n m k = entryRow p n k ∷ underRows d o p n m
+
 -- the map has an entry for each of n detail states, and each names one of k overview states
 pub record Mapped (p : List ℕ) (n k : ℕ) : Type 0 where
   pub whole : 7 + 2 * n ≤ length p

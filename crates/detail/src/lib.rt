@@ -10,7 +10,7 @@ ghost use Rattle.loops.specs.Parts.{Passed};
 ghost use Rattle.detail.specs.Bytes.{entry};
 ghost use Rattle.detail.specs.Covered.{contains, covers, covered};
 ghost use Rattle.detail.specs.Refusals.{mapTable, mapRefusal};
-ghost use Rattle.detail.specs.Parts.{formRow, entryRow, labelRow, coverRow, underRows, Mapped};
+ghost use Rattle.detail.specs.Parts.{formRow, entryRow, labelRow, coverRow, underRows, mappedRows, Mapped};
 use chart::ArrowWords;
 use outcome::Outcome;
 
@@ -170,6 +170,26 @@ fn under_refusal(
     cover_refusal(detail, n, m, overview, k, l, map)
 }
 
+// Rows 21 to 23, of a map in its format.
+fn mapped_refusal(
+    detail: &[u8],
+    n: usize,
+    m: usize,
+    overview: &[u8],
+    k: usize,
+    l: usize,
+    map: &[u8],
+) -> Outcome
+    requires { ⌜ Passed (now detail) n m × Passed (now overview) k l × (7 + 2 * n ≤ length (now map)) ⌝ }
+    ensures { λ r. ⌜ r ≡ first (mappedRows (now (detail .entry)) (now (overview .entry)) (now (map .entry)) n m k) ⌝ }
+{
+    let entries = entry_refusal(map, n, k);
+    if entries.number != 0 {
+        return entries;
+    }
+    under_refusal(detail, n, m, overview, k, l, map)
+}
+
 // Rows 20 to 23, of charts that pass checks 1 to 9.
 fn map_refusal(detail: &[u8], overview: &[u8], map: &[u8]) -> Outcome
     requires { ⌜ (chartRefusal (now detail) .number ≡ 0) × (chartRefusal (now overview) .number ≡ 0) ⌝ }
@@ -177,17 +197,13 @@ fn map_refusal(detail: &[u8], overview: &[u8], map: &[u8]) -> Outcome
 {
     let n = chart::state_count(detail);
     let m = chart::arrow_count(detail);
+    let k = chart::state_count(overview);
+    let l = chart::arrow_count(overview);
     let form = form_refusal(map, n);
     if form.number != 0 {
         return form;
     }
-    let k = chart::state_count(overview);
-    let l = chart::arrow_count(overview);
-    let entries = entry_refusal(map, n, k);
-    if entries.number != 0 {
-        return entries;
-    }
-    under_refusal(detail, n, m, overview, k, l, map)
+    mapped_refusal(detail, n, m, overview, k, l, map)
 }
 
 // Number and place of the first row of the table that is met.

@@ -1,0 +1,32 @@
+-- Row 21, then rows 22 and 23.
+use denote.Ref.{now}
+use Rattle.outcome.proofs.First.{part-refuses, part-passes}
+use Rattle.loops.proofs.Passed.{shaped}
+use Rattle.detail.proofs.Chain.{mapped}
+use Rattle.detail.proofs.mapped_refusal.Statement.{statement}
+use Rattle.detail.proofs.mapped_refusal.Tie as tie
+
+entry-refusal-requires : tie.Need-entry-refusal-requires
+entry-refusal-requires c κs =
+    let p = c .before .before .before .pre in
+    (p .2, shaped (p .0) .few-states)
+
+returns : tie.Need-returns
+returns c = part-refuses _ _ (c .before .before .entry-refusal .ensures) (c .if1 .taken)
+
+under-refusal-requires : tie.Need-under-refusal-requires
+under-refusal-requires c κs =
+    let entered = c .before .before in
+    let start = entered .before .before .before .before in
+    let p = start .pre in
+    let a = start .args in
+    (p .0, p .1, mapped (now (a .map)) (a .n) (p .2) (entered .entry-refusal .ensures) (c .if1 .left))
+
+returns-2 : tie.Need-returns-2
+returns-2 c =
+    let entries = c .before .before .before .entry-refusal .ensures in
+    part-passes _ _ tt entries (c .before .if1 .left) (c .under-refusal .ensures)
+
+pub mapped-refusal-spec : {M : Type 1} → statement M
+mapped-refusal-spec =
+    tie.close (tie.spec entry-refusal-requires returns under-refusal-requires returns-2)
