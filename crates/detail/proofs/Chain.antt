@@ -7,7 +7,7 @@ use lib.ListN.{length}
 use lib.Dec.{leb}
 use borrow.Author.Tests.{leb-false}
 use Rattle.outcome.specs.declared.Outcome.{Outcome}
-use Rattle.outcome.specs.Refusal.{Row, refusal, first, shifted, whole}
+use Rattle.outcome.specs.Refusal.{Row, refusal, first, shifted}
 use Rattle.outcome.proofs.Lowest.{none-below}
 use Rattle.outcome.proofs.First.{part-zero, part-refuses, part-passes, unmet-at}
 use Rattle.outcome.proofs.Shift.{shift-passes, shift-refuses}
@@ -29,35 +29,35 @@ accepted-number s = number-le 19 (acceptedTable s) refl
 module _ (d o p : List ℕ) where
   -- ── The charts ──
 
-  upper : List Row
+  -- the overview's rows, and those of both charts
+  abbrev upper : List Row
   upper = shifted 40 (acceptedTable o)
+
+  abbrev charts : List Row
+  charts = acceptedTable d ++ upper
 
   pub lower-refuses : {a : Outcome} → a ≡ acceptedRefusal d → (a .number ≡ 0 → ⊥) → a ≡ mapRefusal d o p
   unfolding mapCheckTable
-  lower-refuses e h =
-      part-refuses (acceptedTable d ++ shifted 40 (acceptedTable o)) (mapTable d o p)
-      (part-refuses (acceptedTable d) (shifted 40 (acceptedTable o)) e h) h
+  lower-refuses e h = part-refuses charts (mapTable d o p) (part-refuses (acceptedTable d) upper e h) h
 
   module _ {a b : Outcome} (e : a ≡ acceptedRefusal d) (z : a .number ≡ 0) (f : b ≡ acceptedRefusal o) where
     -- what the overview's rows answer, the rows of both charts answer
-    both :
-        {r : Outcome} → r ≡ first (shifted 40 (acceptedTable o)) →
-        r ≡ first (acceptedTable d ++ shifted 40 (acceptedTable o))
-    both = part-passes (acceptedTable d) (shifted 40 (acceptedTable o)) (accepted-numbered d) e z
+    both : {r : Outcome} → r ≡ first upper → r ≡ first charts
+    both = part-passes (acceptedTable d) upper (accepted-numbered d) e z
 
     pub upper-refuses :
         {r : Outcome} → (b .number ≡ 0 → ⊥) → r ≡ refusal (b .number + 40) (b .place) → r ≡ mapRefusal d o p
     unfolding mapCheckTable
     upper-refuses {r} h k =
         let some : r .number ≡ b .number + 40 = ap (λ (x : Outcome). x .number) k in
-        part-refuses (acceptedTable d ++ shifted 40 (acceptedTable o)) (mapTable d o p)
+        part-refuses charts (mapTable d o p)
         (both (k ∙ shift-refuses 40 (acceptedTable o) f h)) (λ w. let y : ⊥ = omega (arith, some, w) in y)
 
     pub map-next : {r : Outcome} → b .number ≡ 0 → r ≡ first (mapTable d o p) → r ≡ mapRefusal d o p
     unfolding mapCheckTable acceptedTable chartTable loopRow
     map-next w =
         let passes = both (shift-passes 40 (acceptedTable o) (accepted-numbered o) f w) in
-        part-passes (acceptedTable d ++ shifted 40 (acceptedTable o)) (mapTable d o p) tt passes refl
+        part-passes charts (mapTable d o p) tt passes refl
 
   -- ── The map, with n detail states, m detail arrows and k overview states ──
 
