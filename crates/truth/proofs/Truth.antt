@@ -67,12 +67,6 @@ pub no-test : {A : Type 0} {b : Bool} → (b ≡ true) ↔ A → ¬ A → b ≡ 
 no-test {b = true} f h = absurd (h (f .0 refl))
 no-test {b = false} f h = refl
 
--- tests that decide the same are the same
-pub same-test : {A : Type 0} (b c : Bool) → (b ≡ true) ↔ A → (c ≡ true) ↔ A → b ≡ c
-same-test true c f g = sym (g .1 (f .0 refl))
-same-test false true f g = f .1 (g .0 refl)
-same-test false false f g = refl
-
 -- ── 1 for true and 0 for false ──
 
 pub one-le : (b : Bool) → cond b 1 0 ≤ 1
