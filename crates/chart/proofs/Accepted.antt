@@ -15,8 +15,8 @@ use Rattle.outcome.proofs.Place.{found-some}
 use Rattle.outcome.proofs.First.{unmet-at, zero-iff}
 use Rattle.outcome.proofs.Unmet.{unmet-append-iff}
 use Rattle.outcome.proofs.Lowest.{none-below, some-lowest}
-use Rattle.head.specs.Head.{headRows}
-use Rattle.head.proofs.Passed.{Headed, head-iff}
+use Rattle.head.specs.Head.{headRows, Headed}
+use Rattle.head.proofs.Passed.{head-iff}
 use Rattle.chart.specs.Bytes.{stateCount, arrowCount, arrowWords, arrowOf, mostOf, chartOf}
 use Rattle.chart.specs.Shape.{Shape}
 use Rattle.chart.specs.Refusals.{chartTable, chartRefusal, leftBy, emptySlot}

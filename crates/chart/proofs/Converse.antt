@@ -1,20 +1,20 @@
 -- A chart whose bytes have the format and whose meaning is accepted passes checks 1 to 9.
-use mathlib.Core.Path.{_≡_, refl, sym, ap, _∙_}
-use mathlib.Core.Bool.{Bool, true, false, not, cond}
+use mathlib.Core.Path.{_≡_, sym, ap, _∙_}
+use mathlib.Core.Bool.{true, false, not}
 use mathlib.Core.List.{List}
 use Prim.Native.Nat.{ℕ, _≤_, _<_}
 use native.Mathlib.Omega.{arith}
 use lib.Dec.{eqb}
-use borrow.Author.Tests.{le-ltb, lt-leb, eq-eqb, ne-eqb, eqb-true}
-use Rattle.tctl.specs.Chart.{Arrow, upTo, noEnd, Within}
+use borrow.Author.Tests.{le-ltb, lt-leb, eq-eqb, ne-eqb}
+use Rattle.tctl.specs.Chart.{Arrow}
 use Rattle.tctl.specs.Accepted.{Accepted}
 use Rattle.outcome.proofs.Place.{equal-none, inside-none}
 use Rattle.outcome.proofs.First.{Unmet, end}
 use Rattle.outcome.proofs.Unmet.{unmet-more, unmet-append-iff}
 use Rattle.outcome.proofs.Lowest.{below-none, offender-found}
-use Rattle.head.specs.Head.{headRows}
-use Rattle.head.proofs.Passed.{Headed, head-iff}
-use Rattle.chart.specs.Bytes.{stateCount, arrowCount, arrowWords, mostOf, chartOf}
+use Rattle.head.specs.Head.{headRows, Headed}
+use Rattle.head.proofs.Passed.{head-iff}
+use Rattle.chart.specs.Bytes.{stateCount, arrowCount, arrowWords, chartOf}
 use Rattle.chart.specs.Shape.{Shape}
 use Rattle.chart.specs.Refusals.{chartTable, namesNoState, emptySlot, leftBy}
 use Rattle.chart.specs.declared.ArrowWords.{ArrowWords}
@@ -26,15 +26,8 @@ use Rattle.chart.proofs.Chart.{states-of, arrow-mem, arrow-of}
 names-states : (n : ℕ) (w : ArrowWords) → (w .start < n) × (w .end < n) → namesNoState n w ≡ false
 names-states n w h = rw (lt-leb n (w .start) (h .0), lt-leb n (w .end) (h .1))
 
--- fewest is at most most: the slot says so, or most is 65,535, read as "no end"
-within-slot : (w : ArrowWords) → Within (w .fewest) (mostOf (w .most)) → w .fewest ≤ 65534 → emptySlot w ≡ false
-within-slot w h l =
-    rw (le-ltb (w .most) (w .fewest) (turn (eqb (w .most) 65535) refl h), ne-eqb (w .fewest) 65535 (λ e. omega arith))
-  where
-    turn :
-        (b : Bool) → eqb (w .most) 65535 ≡ b → Within (w .fewest) (cond b noEnd (upTo (w .most))) → w .fewest ≤ w .most
-    turn true e h = omega (arith, eqb-true (w .most) 65535 e)
-    turn false e h = h
+not-empty : (w : ArrowWords) → (w .fewest ≤ w .most) × (w .fewest ≡ 65535 → ⊥) → emptySlot w ≡ false
+not-empty w h = rw (le-ltb (w .most) (w .fewest) (h .0), ne-eqb (w .fewest) 65535 (h .1))
 
 -- ── The table ──
 
@@ -66,18 +59,19 @@ module _ (s : List ℕ) (acc : Accepted (chartOf s)) where
       let e = sym (ap (λ (a : Arrow). a .start) (y .2)) ∙ x .2 in
       offender-found (λ i. eqb (arrowWords s i .start) v) (y .1) (eq-eqb _ v e)
 
-  -- rows 7 to 9 from the meaning, the others from the format
+  -- rows 7 and 9 from the meaning, the others from the format
   pub accepted-checked :
       Headed 9 s → Shape s (stateCount s) (arrowCount s) →
-      ((i : ℕ) → i < arrowCount s → arrowWords s i .fewest ≤ 65534) →
+      ((i : ℕ) → i < arrowCount s →
+      (arrowWords s i .fewest ≤ arrowWords s i .most) × (arrowWords s i .fewest ≡ 65535 → ⊥)) →
       Checked s
-  accepted-checked head shape fewest =
+  accepted-checked head shape slots =
       record {
         head = head;
         shape = shape;
         ends = λ i l.
             let m = arrow-mem s i l in
             (omega (arith, acc .starts _ m, states-of s), omega (arith, acc .ends _ m, states-of s));
-        slots = λ i l. within-slot (arrowWords s i) (acc .slots _ (arrow-mem s i l)) (fewest i l);
+        slots = λ i l. not-empty (arrowWords s i) (slots i l);
         left = left;
       }

@@ -4,3 +4,4 @@ pub mod Passed
 pub mod Chart
 pub mod Accepted
 pub mod Converse
+pub mod Reading

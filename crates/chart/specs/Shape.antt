@@ -4,6 +4,7 @@ use mathlib.Core.List.{List}
 use Prim.Native.Nat.{ℕ, _+_, _*_, _≤_, _<_}
 use lib.ListN.{length}
 use Rattle.chart.specs.Bytes.{stateCount, arrowCount, arrowPlace}
+use Rattle.chart.specs.Refusals.{chartRefusal}
 use Rattle.chart.specs.declared.ArrowWords.{ArrowWords}
 
 -- the words of an arrow are of two bytes
@@ -27,3 +28,9 @@ pub record Shape (s : List ℕ) (n m : ℕ) : Type 0 where
   pub some-arrows : 1 ≤ m
   pub few-arrows : m ≤ 2048
   pub whole : length s ≡ 9 + 2 * n + 8 * m
+
+-- a chart with n states and m arrows that passes checks 1 to 9
+pub record Passed (s : List ℕ) (n m : ℕ) : Type 0 where
+  pub states : n ≡ stateCount s
+  pub arrows : m ≡ arrowCount s
+  pub unrefused : chartRefusal s .number ≡ 0

@@ -1,1 +1,2 @@
+pub mod MapCheck
 pub mod DetailRule

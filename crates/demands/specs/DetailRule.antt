@@ -8,20 +8,25 @@ use Rattle.tctl.specs.Kind.{Runs, isOf}
 use Rattle.tctl.specs.Detail.{Detail, Carries}
 use Rattle.chart.specs.Bytes.{stateCount, chartOf}
 use Rattle.rule.specs.Formula.{formulaOf}
+use Rattle.rule.specs.Refusals.{ruleRefusal}
 use Rattle.loops.specs.Accepted.{AcceptedChart}
 use Rattle.detail.specs.Bytes.{entry, MapFormat}
 
--- what the rule asks of a detail chart d, an overview o and a map p: both charts are accepted, and "detail state d
--- stands for the overview state that entry d of the map names"
+-- what the detail rule asks of a detail chart d, an overview o and a map p: both charts accepted, the map in its
+-- format, and the detail one under the overview, a state standing "for the overview state that" its entry "names"
 pub record Premises (d o p : List ℕ) : Type 0 where
   pub detail : AcceptedChart d
   pub overview : AcceptedChart o
   pub map : MapFormat p (stateCount d)
   pub under : Detail (chartOf d) (chartOf o) (entry p)
 
--- the claim about a rule r, of each kind that it has: "A rule of both kinds counts as of each."
+-- what it says of a rule r, for each kind that r has: "A rule of both kinds counts as of each."
 pub record DetailRule (d o p r : List ℕ) : Type 0 where
-  -- "with the second demand's 'holds'"
+  -- "with the second demand's 'holds' in place of 'marked'"
   pub meaning :
       (k : Runs) → isOf k (formulaOf r) ≡ true →
       Carries k (stateCount d) (entry p) (Holds (chartOf o) (formulaOf r)) (Holds (chartOf d) (formulaOf r))
+
+-- "one claim, for every two charts, map and rule that meet its premises"
+abbrev pub ThirdDemand : Type 0
+ThirdDemand = (d o p r : List ℕ) → Premises d o p → ruleRefusal r .number ≡ 0 → DetailRule d o p r

@@ -13,15 +13,20 @@ use Rattle.chart.specs.Bytes.{labelWord, arrowCount, arrowWords, arrowOf}
 use Rattle.detail.specs.Bytes.{entry}
 use Rattle.detail.specs.Covered.{covers, covered, coveredAt}
 
--- ── Row 22: the words x and y, read of state v and of the state e it stands for ──
+-- ── Row 22: the words x and y, read of state v and of the state it stands for ──
 
-module _ (d o p : List ℕ) (v : ℕ) {x y e : ℕ}
-    (own : x ≡ labelWord d v) (is : e ≡ entry p v) (other : y ≡ labelWord o e) where
-  pub labels-differ : ¬ (x ≡ y) → not (eqb (labelWord d v) (labelWord o (entry p v))) ≡ true
-  labels-differ h = ap not (ne-eqb _ _ (λ z. h (own ∙ z ∙ sym (other ∙ ap (labelWord o) is))))
+-- the labels differ, as a test
+abbrev pub differ : List ℕ → List ℕ → List ℕ → ℕ → Bool
+differ d o p v = not (eqb (labelWord d v) (labelWord o (entry p v)))
 
-  pub labels-same : x ≡ y → not (eqb (labelWord d v) (labelWord o (entry p v))) ≡ false
-  labels-same z = ap not (eq-eqb _ _ (sym own ∙ z ∙ other ∙ ap (labelWord o) is))
+-- what comparing the words tells of the labels
+pub labels-told :
+    (d o p : List ℕ) (v : ℕ) {x y e : ℕ} → x ≡ labelWord d v → e ≡ entry p v → y ≡ labelWord o e →
+    (¬ (x ≡ y) → differ d o p v ≡ true) × (x ≡ y → differ d o p v ≡ false)
+labels-told d o p v own is other = (
+  λ h. ap not (ne-eqb _ _ (λ z. h (own ∙ z ∙ sym (other ∙ ap (labelWord o) is)))),
+  λ z. ap not (eq-eqb _ _ (sym own ∙ z ∙ other ∙ ap (labelWord o) is)),
+)
 
 -- ── Row 23: the overview arrow j, and the detail arrow i ──
 

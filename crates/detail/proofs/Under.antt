@@ -9,7 +9,7 @@ use native.Mathlib.Omega.{arith}
 use lib.ListN.{getD}
 use lib.Dec.{eqb, leb}
 use borrow.Author.Tests.{leb-false, lt-leb, not-false}
-use Rattle.truth.proofs.Compare.{differ-iff}
+use Rattle.truth.proofs.Compare.{not-differ-iff}
 use Rattle.tctl.specs.Chart.{Arrow, states}
 use Rattle.tctl.specs.Detail.{Covers, Detail}
 use Rattle.outcome.specs.declared.Outcome.{Outcome}
@@ -53,7 +53,7 @@ module _ (d o p : List ℕ) where
       ((v : ℕ) → v < states (chartOf d) → getD (chartOf d .labels) v 0 ≡ getD (chartOf o .labels) (entry p v) 0)
   labels-iff h =
       states-iff (λ v. not (eqb (labelWord d v) (labelWord o (entry p v)))) λ v l.
-      let same = differ-iff (labelWord d v) (labelWord o (entry p v)) in
+      let same = not-differ-iff (labelWord d v) (labelWord o (entry p v)) in
       let e = label-of d v l in
       let f = label-of o (entry p v) (omega (arith, h v (omega (arith, states-of d)), states-of o)) in
       (λ x. e ∙ same .0 x ∙ sym f, λ x. same .1 (sym e ∙ x ∙ f))

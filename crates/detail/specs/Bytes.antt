@@ -4,7 +4,7 @@ use mathlib.Core.List.{List}
 use Prim.Native.Nat.{ℕ, _+_, _*_, _≤_}
 use lib.ListN.{length}
 use Rattle.words.specs.Word.{word}
-use Rattle.head.specs.Head.{version, statedLength}
+use Rattle.head.specs.Head.{Headed}
 
 -- "count in bytes 5 to 6"
 abbrev pub entryCount : List ℕ → ℕ
@@ -16,11 +16,8 @@ entry p d = word p (7 + 2 * d)
 
 -- a map for a detail chart with n states
 pub record MapFormat (p : List ℕ) (n : ℕ) : Type 0 where
-  pub head : 7 ≤ length p
-  -- "Byte 0 is the version, 1."
-  pub version-one : version p ≡ 1
-  -- "Bytes 1 to 4 give the length of the whole, these five bytes included."
-  pub stated : statedLength p ≡ length p
+  -- 7 bytes at least, version 1, the stated length the real one
+  pub head : Headed 7 p
   -- "Length 7 + 2 × count."
   pub whole : length p ≡ 7 + 2 * entryCount p
   -- "for each detail state"

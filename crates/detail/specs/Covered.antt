@@ -14,7 +14,7 @@ contains noEnd m = true
 contains (upTo k) (upTo m) = leb m k
 contains (upTo k) noEnd = false
 
--- the overview arrow b, "from the start's mapped state to the end's, has a slot containing the whole slot" of a
+-- the overview arrow b, "from the start's mapped state to the end's has a slot containing the whole slot" of a
 abbrev pub covers : ℕ → ℕ → Arrow → Arrow → Bool
 covers from to a b =
     eqb (b .start) from && eqb (b .end) to && leb (b .fewest) (a .fewest) && contains (b .most) (a .most)

@@ -28,12 +28,12 @@ abbrev pub coverRow : List ℕ → List ℕ → List ℕ → ℕ → Row
 coverRow d o p m = refuse 23 (lowest (λ i. not (coveredAt d o p i)) m)
 
 -- rows 22 and 23
-abbrev pub underRows : List ℕ → List ℕ → List ℕ → ℕ → ℕ → List Row
-underRows d o p n m = labelRow d o p n ∷ coverRow d o p m ∷ []
+abbrev pub lastRows : List ℕ → List ℕ → List ℕ → ℕ → ℕ → List Row
+lastRows d o p n m = labelRow d o p n ∷ coverRow d o p m ∷ []
 
 -- rows 21 to 23
 abbrev pub mappedRows : List ℕ → List ℕ → List ℕ → ℕ → ℕ → ℕ → List Row
-mappedRows d o p n m k = entryRow p n k ∷ underRows d o p n m
+mappedRows d o p n m k = entryRow p n k ∷ lastRows d o p n m
 
 -- the map has an entry for each of n detail states, and each names one of k overview states
 pub record Mapped (p : List ℕ) (n k : ℕ) : Type 0 where

@@ -6,11 +6,11 @@ ghost use lib.ListN.{length};
 ghost use Rattle.outcome.specs.Refusal.{first};
 ghost use Rattle.chart.specs.Bytes.{arrowOf, mostOf};
 ghost use Rattle.chart.specs.Refusals.{chartRefusal};
-ghost use Rattle.loops.specs.Parts.{Passed};
+ghost use Rattle.chart.specs.Shape.{Passed};
 ghost use Rattle.detail.specs.Bytes.{entry};
 ghost use Rattle.detail.specs.Covered.{contains, covers, covered};
 ghost use Rattle.detail.specs.Refusals.{mapTable, mapRefusal};
-ghost use Rattle.detail.specs.Parts.{formRow, entryRow, labelRow, coverRow, underRows, mappedRows, Mapped};
+ghost use Rattle.detail.specs.Parts.{formRow, entryRow, labelRow, coverRow, lastRows, mappedRows, Mapped};
 use chart::ArrowWords;
 use outcome::Outcome;
 
@@ -80,15 +80,15 @@ fn label_refusal(
     outcome::accepted()
 }
 
-// The most by contains the most m: "no end" contains every most, and no other contains it.
-fn contains_most(by: u32, m: u32) -> bool
+// The word by, as a most, contains the word most: "no end" contains every most, and no other contains it.
+fn contains_most(by: u32, most: u32) -> bool
     requires { ⌜ by < 65536 ⌝ }
-    ensures { λ r. ⌜ r ≡ contains (mostOf by) (mostOf m) ⌝ }
+    ensures { λ r. ⌜ r ≡ contains (mostOf by) (mostOf most) ⌝ }
 {
     if by == 65535 {
         return true;
     }
-    m <= by
+    most <= by
 }
 
 // The overview arrow b covers the detail arrow a, whose ends stand for the states from and to.
@@ -151,7 +151,7 @@ fn cover_refusal(
 }
 
 // Rows 22 and 23.
-fn under_refusal(
+fn last_refusal(
     detail: &[u8],
     n: usize,
     m: usize,
@@ -161,7 +161,7 @@ fn under_refusal(
     map: &[u8],
 ) -> Outcome
     requires { ⌜ Passed (now detail) n m × Passed (now overview) k l × Mapped (now map) n k ⌝ }
-    ensures { λ r. ⌜ r ≡ first (underRows (now (detail .entry)) (now (overview .entry)) (now (map .entry)) n m) ⌝ }
+    ensures { λ r. ⌜ r ≡ first (lastRows (now (detail .entry)) (now (overview .entry)) (now (map .entry)) n m) ⌝ }
 {
     let labels = label_refusal(detail, n, m, overview, k, l, map);
     if labels.number != 0 {
@@ -187,7 +187,7 @@ fn mapped_refusal(
     if entries.number != 0 {
         return entries;
     }
-    under_refusal(detail, n, m, overview, k, l, map)
+    last_refusal(detail, n, m, overview, k, l, map)
 }
 
 // Rows 20 to 23, of charts that pass checks 1 to 9.

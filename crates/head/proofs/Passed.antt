@@ -12,13 +12,7 @@ use Rattle.outcome.specs.Refusal.{whole, first}
 use Rattle.outcome.proofs.Place.{whole-none, none-equal, equal-none}
 use Rattle.outcome.proofs.First.{Unmet, end, Numbered, zero-iff, part-zero}
 use Rattle.outcome.proofs.Unmet.{unmet-more, unmet-row}
-use Rattle.head.specs.Head.{version, statedLength, headRows}
-
--- none of the head's conditions is met
-pub record Headed (least : ℕ) (s : List ℕ) : Type 0 where
-  pub enough : least ≤ length s
-  pub version-one : version s ≡ 1
-  pub stated : statedLength s ≡ length s
+use Rattle.head.specs.Head.{version, statedLength, headRows, Headed}
 
 module _ (number least : ℕ) (s : List ℕ) where
   headed : Unmet (headRows number least s) → Headed least s

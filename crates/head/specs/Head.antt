@@ -1,7 +1,8 @@
 -- The head that charts, rules and maps share. The quoted sentences are of 01, "Bytes of a chart, a rule and a map".
+use mathlib.Core.Path.{_≡_}
 use mathlib.Core.Bool.{not}
 use mathlib.Core.List.{List, [], _∷_}
-use Prim.Native.Nat.{ℕ, _+_}
+use Prim.Native.Nat.{ℕ, _+_, _≤_}
 use lib.ListN.{length, getD}
 use lib.Dec.{eqb, ltb}
 use Rattle.words.specs.Word.{long}
@@ -22,3 +23,9 @@ headRows number least s =
     refuse (number + 1) (whole (not (eqb (version s) 1))) ∷
     refuse (number + 2) (whole (not (eqb (statedLength s) (length s)))) ∷
     []
+
+-- a head of which none of these is true
+pub record Headed (least : ℕ) (s : List ℕ) : Type 0 where
+  pub enough : least ≤ length s
+  pub version-one : version s ≡ 1
+  pub stated : statedLength s ≡ length s

@@ -1,4 +1,4 @@
--- The small inputs of 01's table are refused with the number and place of their row: one computed test over each list.
+-- The small inputs are answered with the number and the place that are listed: one computed test over each list.
 use mathlib.Core.Path.{_≡_, refl}
 use mathlib.Core.Bool.{Bool, true, _&&_}
 use mathlib.Core.List.{List}

@@ -1,11 +1,12 @@
--- The column "Small input" of 01's table, rows 1 to 16 and 19 to 23, and overviews that map check refuses.
+-- The column "Small input" of 01's table, rows 1 to 16 and 19 to 23, with an input for each sentence that 01 has beside
+-- it: "lowest state on one", "the same plus 40", "several joined don't count", "'No end' contains every most".
 use mathlib.Core.List.{List, [], _∷_, _++_}
 use Prim.Native.Nat.{ℕ, _+_, _/_}
 use lib.ListN.{length, take}
 use Rattle.items.specs.Write.{word, arrow, chart, node, rule, map}
 use Rattle.items.specs.Items.{short, trueUntil, A, atMost}
 
--- bytes, and the number and the place that they are refused with
+-- bytes, and the number and the place that are answered: 0 and 0 if they are accepted
 pub record Refused : Type 0 where
   pub bytes : List ℕ
   pub number : ℕ
@@ -73,7 +74,7 @@ rules =
     refused 16 0 (rule 2 (node 0 0 0 0 0 ++ node 3 0 0 0 0)) ∷
     []
 
--- a detail chart, an overview and a map, and the number and the place that they are refused with
+-- a detail chart, an overview and a map, and the number and the place that are answered
 pub record RefusedMap : Type 0 where
   pub detail : List ℕ
   pub overview : List ℕ

@@ -4,10 +4,10 @@ use mathlib.Core.Logic.{_↔_}
 use mathlib.Core.Bool.{false≢true}
 use mathlib.Core.List.{List, [], _∷_}
 use mathlib.Core.Option.{none}
-use Prim.Native.Nat.{ℕ, _+_, _≤_, _<_}
+use Prim.Native.Nat.{ℕ, _≤_, _<_}
 use native.Mathlib.Omega.{arith}
 use lib.Dec.{ltb}
-use borrow.Author.Tests.{eqb-false}
+use borrow.Author.Tests.{ltb-false, eqb-false}
 use Rattle.truth.proofs.Truth.{or-false, no-test}
 use Rattle.tctl.specs.Run.{Run}
 use Rattle.tctl.specs.Accepted.{Accepted, OnZeroLoop}
@@ -20,17 +20,15 @@ use Rattle.outcome.specs.Refusal.{success, lowest}
 use Rattle.outcome.proofs.First.{Unmet, end, Numbered, zero-iff, success-iff}
 use Rattle.outcome.proofs.Unmet.{unmet-more, unmet-row, unmet-append-iff}
 use Rattle.outcome.proofs.Lowest.{none-below, below-none}
-use Rattle.head.proofs.Passed.{Headed}
-use Rattle.chart.specs.Bytes.{stateCount, arrowCount, arrowPlace, arrowWords, chartOf}
-use Rattle.chart.specs.Shape.{Shape}
+use Rattle.chart.specs.Bytes.{stateCount, arrowCount, arrowWords, chartOf}
+use Rattle.chart.specs.Shape.{Shape, Passed}
 use Rattle.chart.specs.Refusals.{chartTable, chartRefusal}
 use Rattle.chart.proofs.Accepted.{Checked, checked, chart-accepted}
 use Rattle.chart.proofs.Chart.{states-of}
 use Rattle.chart.proofs.Converse.{checked-unmet, accepted-checked}
+use Rattle.chart.proofs.Reading.{drawn}
 use Rattle.loops.specs.Refusal.{loopRow, acceptedTable, acceptedRefusal}
-use Rattle.loops.specs.Accepted.{Octets, ChartFormat, AcceptedChart}
-use Rattle.loops.specs.Parts.{Passed}
-use Rattle.loops.proofs.Passed.{drawn}
+use Rattle.loops.specs.Accepted.{ChartFormat, AcceptedChart}
 use Rattle.loops.proofs.Loops.{chain-below}
 
 module _ (s : List ℕ) where
@@ -77,48 +75,40 @@ module _ (s : List ℕ) where
     pub accepted-passes : (v : ℕ) → v < stateCount s → (r : Run (chartOf s) v) → Passes r
     accepted-passes v l r = passes accepted-only v (omega (arith, states-of s)) r
 
-    -- a word of two bytes is at most 65,535, and row 8 says that the fewest is not that
-    fewest : Octets s → (i : ℕ) → i < arrowCount s → arrowWords s i .fewest ≤ 65534
-    unfolding arrowWords
-    fewest o i l =
+    slots :
+        (i : ℕ) → i < arrowCount s →
+        (arrowWords s i .fewest ≤ arrowWords s i .most) × (arrowWords s i .fewest ≡ 65535 → ⊥)
+    slots i l =
         let w = arrowWords s i in
-        let at = arrowPlace s i + 4 in
-        let h = eqb-false (w .fewest) 65535 (or-false (ltb (w .most) (w .fewest)) _ (ok .slots i l) .1) in
-        omega (arith, h, o at, o (at + 1))
+        let e = or-false (ltb (w .most) (w .fewest)) _ (ok .slots i l) in
+        (ltb-false (w .most) (w .fewest) (e .0), eqb-false (w .fewest) 65535 (e .1))
 
-    format : Octets s → ChartFormat s
-    format o =
-        let h = ok .head in
+    format : ChartFormat s
+    format =
         let k = ok .shape in
         record {
-          head = h .enough;
-          version-one = h .version-one;
-          stated = h .stated;
+          head = ok .head;
           some-states = k .some-states;
           few-states = k .few-states;
           some-arrows = k .some-arrows;
           few-arrows = k .few-arrows;
           whole = k .whole;
-          fewest = fewest o;
+          slots = slots;
         }
 
   -- ── Back to the table ──
 
-  module _ (f : ChartFormat s) where
-    headed : Headed 9 s
-    headed = record { enough = f .head; version-one = f .version-one; stated = f .stated }
-
-    shaped : Shape s (stateCount s) (arrowCount s)
-    shaped =
-        record {
-          states = refl;
-          arrows = refl;
-          some-states = f .some-states;
-          few-states = f .few-states;
-          some-arrows = f .some-arrows;
-          few-arrows = f .few-arrows;
-          whole = f .whole;
-        }
+  format-shape : ChartFormat s → Shape s (stateCount s) (arrowCount s)
+  format-shape f =
+      record {
+        states = refl;
+        arrows = refl;
+        some-states = f .some-states;
+        few-states = f .few-states;
+        some-arrows = f .some-arrows;
+        few-arrows = f .few-arrows;
+        whole = f .whole;
+      }
 
   -- row 19's test decides OnZeroLoop, and no state is on a loop
   loop-unmet : Accepted (chartOf s) → Unmet (loopRow s ∷ [])
@@ -131,15 +121,14 @@ module _ (s : List ℕ) where
   accepted-unmet : AcceptedChart s → Unmet (acceptedTable s)
   accepted-unmet acc =
       let f = acc .format in
-      let ok = accepted-checked s (acc .meaning) (headed f) (shaped f) (f .fewest) in
+      let ok = accepted-checked s (acc .meaning) (f .head) (format-shape f) (f .slots) in
       parts-iff .1 (checked-unmet s ok, loop-unmet (acc .meaning))
 
-  -- Each row is false just where its part of the format, or of the meaning, is true. Bytes are asked for row 8 alone: a
-  -- fewest that is not 65,535 is then at most 65,534.
-  pub accepted-iff : Octets s → (acceptedRefusal s ≡ success) ↔ AcceptedChart s
-  accepted-iff o = (there, λ acc. success-iff (acceptedTable s) accepted-numbered .1 (accepted-unmet acc))
+  -- Each row is false just where its part of the format, or of the meaning, is true.
+  pub accepted-iff : (acceptedRefusal s ≡ success) ↔ AcceptedChart s
+  accepted-iff = (there, λ acc. success-iff (acceptedTable s) accepted-numbered .1 (accepted-unmet acc))
     where
       there : acceptedRefusal s ≡ success → AcceptedChart s
       there e =
           let z = ap (λ (r : Outcome). r .number) e in
-          record { format = format z o; meaning = accepted-only z }
+          record { format = format z; meaning = accepted-only z }

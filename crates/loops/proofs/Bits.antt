@@ -1,9 +1,9 @@
 -- Bits: of two numbers together, of a power of 2, and the bit of a state.
-use mathlib.Core.Path.{_≡_, ap₂, _∙_}
+use mathlib.Core.Path.{_≡_, ap, ap₂, _∙_}
 use mathlib.Core.Logic.{_⊎_, inl, inr, ⊎-elim, _↔_, Iff·trans, by-cases}
 use mathlib.Core.Bool.{true, false}
-use Prim.Native.Nat.{ℕ, zero, suc, _+_, _-_, _/_, _%_, _^_, _<_, max}
-use native.Mathlib.Nat.{zero-div, div-eq-of-lt, pow-suc, mul-div-mul-right}
+use Prim.Native.Nat.{ℕ, zero, suc, _+_, _-_, _*_, _/_, _%_, _^_, _<_, max}
+use native.Mathlib.Nat.{one-mul, mod-eq-of-lt, zero-div, div-eq-of-lt, pow-suc, mul-div-mul-right}
 use native.Mathlib.Omega.{arith}
 use native.Mathlib.Decide.{ℕ-discrete}
 use lib.Dec.{leb, ltb}
@@ -65,3 +65,7 @@ has-own base e j l = own-elim (λ w. Has w j ↔ (e ≡ base + j)) base e none o
 
     one : (i : ℕ) → i < 32 → e ≡ base + i → Has (2 ^ i) j ↔ (e ≡ base + j)
     one i k f = Iff·trans (has-power i j) (omega arith)
+
+-- the bit that a shift makes
+pub shift-bit : (j : ℕ) → j < 32 → 1 * 2 ^ j % 4294967296 ≡ 2 ^ j
+shift-bit j l = ap (λ x. x % 4294967296) (one-mul (2 ^ j)) ∙ mod-eq-of-lt (pow-lt {j = 32} l)

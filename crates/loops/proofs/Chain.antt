@@ -9,9 +9,9 @@ use Rattle.outcome.specs.Refusal.{first}
 use Rattle.outcome.proofs.First.{part-zero, part-refuses, part-passes}
 use Rattle.chart.specs.Bytes.{stateCount, arrowCount}
 use Rattle.chart.specs.Refusals.{chartTable, chartRefusal}
+use Rattle.chart.specs.Shape.{Passed}
 use Rattle.chart.proofs.Accepted.{checked}
 use Rattle.loops.specs.Refusal.{loopRow, acceptedTable, acceptedRefusal}
-use Rattle.loops.specs.Parts.{Passed}
 
 pub prefix-size : (n : ℕ) (l : List ℕ) → n ≤ length l → length (take n l) ≡ n
 prefix-size n l h = omega (arith, length-take n l)

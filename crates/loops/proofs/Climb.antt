@@ -1,4 +1,4 @@
--- Climbing numbers: there are as many, no offer falls, none passes the limit, and the room under the limit shrinks.
+-- Climbing numbers: there are as many, no lift falls, none passes the limit, and the room under the limit shrinks.
 use mathlib.Core.Path.{_≡_, refl, _∙_}
 use mathlib.Core.List.{List, [], _∷_}
 use Prim.Native.Nat.{ℕ, zero, suc, _≤_, _<_}
@@ -11,7 +11,7 @@ use Rattle.model.specs.Engine.{num}
 use Rattle.model.proofs.Numbers.{set-elim}
 use Rattle.loops.specs.declared.Search.{Search}
 use Rattle.loops.specs.declared.Search.the-variants.{Ranks, Batch}
-use Rattle.loops.specs.Climb.{ownBit, offer, limit, Climbs, same, more, room}
+use Rattle.loops.specs.Climb.{ownBit, lift, limit, Climbs, same, more, room}
 use Rattle.loops.specs.Parts.{Numbers}
 use Rattle.loops.proofs.Bits.{own-elim}
 
@@ -19,20 +19,20 @@ use Rattle.loops.proofs.Bits.{own-elim}
 le-or : (a b : ℕ) → a ≤ bitOr a b
 le-or a b = omega (arith, or-add-and a b, and-le-r a b)
 
-pub offer-up : (search : Search) (low high e : ℕ) → low ≤ offer search low high e
-offer-up (Ranks cap) low high e = omega arith
-offer-up (Batch base) low high e =
+pub lift-up : (search : Search) (low high e : ℕ) → low ≤ lift search low high e
+lift-up (Ranks cap) low high e = omega arith
+lift-up (Batch base) low high e =
     let both = bitOr low high in omega (arith, le-or low high, le-or both (ownBit base e))
 
 own-lt : (base e : ℕ) → ownBit base e < 4294967296
 own-lt base e = own-elim (λ w. w < 4294967296) base e (λ h. omega arith) (λ j l f. pow-lt l)
 
 -- what is put together of numbers of 32 bits has 32 bits
-pub offer-limit :
+pub lift-limit :
     (search : Search) (low high e : ℕ) → low ≤ limit search → high ≤ limit search →
-    offer search low high e ≤ limit search
-offer-limit (Ranks cap) low high e h k = omega arith
-offer-limit (Batch base) low high e h k =
+    lift search low high e ≤ limit search
+lift-limit (Ranks cap) low high e h k = omega arith
+lift-limit (Batch base) low high e h k =
     let both = or-lt 32 low high (omega arith) (omega arith) in
     omega (arith, or-lt 32 (bitOr low high) (ownBit base e) both (own-lt base e))
 
@@ -51,8 +51,8 @@ module _ {G : Chart} {search : Search} where
   climb-limit low same t = low t
   climb-limit low (more {vs} {s} {w} p r) t =
       let e = r .arrow .end in
-      let h = offer-limit search (num vs s) (num vs e) e (climb-limit low p s) (climb-limit low p e) in
-      set-elim (λ t x. x ≤ limit search) vs s w (omega (arith, h, r .offered)) (λ u. climb-limit low p u) t
+      let h = lift-limit search (num vs s) (num vs e) e (climb-limit low p s) (climb-limit low p e) in
+      set-elim (λ t x. x ≤ limit search) vs s w (omega (arith, h, r .lifted)) (λ u. climb-limit low p u) t
 
   pub climb-numbers :
       {n : ℕ} {old vs : List ℕ} → Numbers n (limit search) old → Climbs G search old vs → Numbers n (limit search) vs

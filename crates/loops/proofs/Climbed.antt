@@ -10,12 +10,13 @@ use Rattle.tctl.specs.Chart.{Arrow}
 use Rattle.model.specs.Engine.{num}
 use Rattle.chart.specs.declared.ArrowWords.{ArrowWords}
 use Rattle.chart.specs.Bytes.{arrowWords, arrowOf, chartOf}
+use Rattle.chart.specs.Shape.{Passed}
 use Rattle.chart.proofs.Chart.{arrow-mem, arrow-of}
+use Rattle.chart.proofs.Reading.{arrow-ends}
 use Rattle.loops.specs.declared.Search.{Search}
 use Rattle.loops.specs.Climb.{Raises, limit, Climbs, same, more, Quiet, room}
-use Rattle.loops.specs.Parts.{Passed, Numbers, offerAt, RestsAt, Raised, Climbed}
-use Rattle.loops.proofs.Climb.{offer-limit, climb-trans, room-set}
-use Rattle.loops.proofs.Passed.{arrow-ends}
+use Rattle.loops.specs.Parts.{Numbers, liftAt, RestsAt, Raised, Climbed}
+use Rattle.loops.proofs.Climb.{lift-limit, climb-trans, room-set}
 
 none-or-some : (r : ℕ) → (r ≡ 0) ⊎ (1 ≤ r)
 none-or-some zero = inl refl
@@ -70,13 +71,13 @@ module _ {s : List ℕ} {search : Search} where
         climbs (inr k) =
             let y = x .higher k in
             let a = arrowOf (arrowWords s i) in
-            let raises : Raises (chartOf s) search old (a .start) (offerAt search (a .start) (a .end) old) =
+            let raises : Raises (chartOf s) search old (a .start) (liftAt search (a .start) (a .end) old) =
             record {
               arrow = a;
               drawn = arrow-mem s i (omega (arith, p .arrows));
               leaves = refl;
               instant = e;
-              offered = refl;
+              lifted = refl;
               higher = y .1;
             } in
             subst (Climbs (chartOf s) search old) (sym (y .0)) (more same raises)
@@ -87,8 +88,8 @@ module _ {s : List ℕ} {search : Search} where
             let a = arrowWords s i .start in
             let b = arrowWords s i .end in
             let inside : a < length old = omega (arith, arrow-ends p i l .0, ns .size) in
-            let low = offer-limit search (num old a) (num old b) b (ns .capped a) (ns .capped b) in
-            let less = room-set search old a (offerAt search a b old) (y .1) low inside in
+            let low = lift-limit search (num old a) (num old b) b (ns .capped a) (ns .capped b) in
+            let less = room-set search old a (liftAt search a b old) (y .1) low inside in
             subst (λ v. room search v < room search old) (sym (y .0)) less
 
     -- the same of the words w that were read
@@ -136,4 +137,4 @@ module _ {s : List ℕ} {search : Search} where
       subst Still (sym (w .2)) (subst (λ v. RestsAt s search v (w .0)) (sym (y .0)) h)
     where
       Still : Arrow → Type 0
-      Still a = a .fewest ≡ 0 → offerAt search (a .start) (a .end) new ≡ num new (a .start)
+      Still a = a .fewest ≡ 0 → liftAt search (a .start) (a .end) new ≡ num new (a .start)

@@ -1,11 +1,10 @@
--- The answers of the functions that look for loops, from the numbers when they have settled.
-use mathlib.Core.Path.{_≡_, sym, subst, ap}
+-- The answers of the functions that look for loops, from the numbers at rest.
+use mathlib.Core.Path.{_≡_, refl, sym, subst, ap}
 use mathlib.Core.Logic.{_↔_}
 use mathlib.Core.Bool.{true, false}
 use mathlib.Core.List.{List}
 use Prim.Native.Nat.{ℕ, _+_, _-_, _/_, _%_, _^_, _≤_, _<_}
 use native.Mathlib.Omega.{arith}
-use lib.ListN.{length}
 use Rattle.truth.proofs.Truth.{no-test}
 use Rattle.tctl.specs.Chart.{states}
 use Rattle.tctl.specs.Accepted.{OnZeroLoop}
@@ -15,21 +14,22 @@ use Rattle.model.proofs.ZeroLoop.{on-zero-loop-iff}
 use Rattle.outcome.specs.Refusal.{found, lowest}
 use Rattle.outcome.proofs.Lowest.{below-none, offender-found}
 use Rattle.chart.specs.Bytes.{chartOf}
+use Rattle.chart.specs.Shape.{Passed}
+use Rattle.chart.proofs.Reading.{has-states, drawn}
 use Rattle.loops.specs.declared.Search.the-variants.{Ranks, Batch}
-use Rattle.loops.specs.Parts.{Passed, Settled}
-use Rattle.loops.proofs.Passed.{has-states, drawn}
+use Rattle.loops.specs.Parts.{AtRest}
 use Rattle.loops.proofs.Bits.{Has}
 use Rattle.loops.proofs.Climb.{climb-numbers}
 use Rattle.loops.proofs.Cleared.{cleared-numbers}
 use Rattle.loops.proofs.Loops.{batch-iff, some-loop, no-loop}
 
-module _ (s : List ℕ) {vs : List ℕ} (zeros : (v : ℕ) → num vs v ≡ 0) {ws : List ℕ} where
+module _ (s : List ℕ) {ws : List ℕ} where
   -- ── The states of a batch ──
 
-  module _ {base : ℕ} (x : Settled (chartOf s) (Batch base) vs ws) (g : ℕ) (from : base ≤ g) (few : g < base + 32) where
+  module _ {base : ℕ} (x : AtRest (chartOf s) (Batch base) ws) (g : ℕ) (from : base ≤ g) (few : g < base + 32) where
     own-iff : (num ws g / 2 ^ (g - base) % 2 ≡ 1) ↔ OnZeroLoop (chartOf s) g
     own-iff =
-        let iff = batch-iff base zeros (x .climbs) (x .quiet) (g - base) (omega arith) in
+        let iff = batch-iff base (x .zeros) (x .climbs) (x .quiet) (g - base) (omega arith) in
         subst (λ h. Has (num ws h) (g - base) ↔ OnZeroLoop (chartOf s) h) (omega arith) iff
 
     pub own-bit-set : num ws g / 2 ^ (g - base) % 2 ≡ 1 → onZeroLoop (chartOf s) g ≡ true
@@ -40,14 +40,14 @@ module _ (s : List ℕ) {vs : List ℕ} (zeros : (v : ℕ) → num vs v ≡ 0) {
 
   -- ── Whether there is a loop ──
 
-  module _ {n m : ℕ} (p : Passed s n m) (size : length vs ≡ n) (x : Settled (chartOf s) (Ranks n) vs ws) where
-    ranked : Settled (chartOf s) (Ranks (states (chartOf s))) vs ws
-    ranked = subst (λ k. Settled (chartOf s) (Ranks k) vs ws) (sym (has-states p)) x
+  module _ {n m : ℕ} (p : Passed s n m) (x : AtRest (chartOf s) (Ranks n) ws) where
+    ranked : AtRest (chartOf s) (Ranks (states (chartOf s))) ws
+    ranked = subst (λ k. AtRest (chartOf s) (Ranks k) ws) (sym (has-states p)) x
 
     pub loop-found : (t : ℕ) → t < n → num ws t ≡ n → true ≡ found (lowest (onZeroLoop (chartOf s)) n)
     loop-found t l e =
         let low : t < states (chartOf s) = omega (arith, has-states p) in
-        let w = some-loop (drawn p) zeros (ranked .climbs) t low (omega (arith, has-states p)) in
+        let w = some-loop (drawn p) (ranked .zeros) (ranked .climbs) t low (omega (arith, has-states p)) in
         let on = on-zero-loop-iff (chartOf s) (w .0) .1 (w .2) in
         sym (offender-found (onZeroLoop (chartOf s)) (omega (arith, w .1, has-states p)) on)
 
@@ -57,10 +57,10 @@ module _ (s : List ℕ) {vs : List ℕ} (zeros : (v : ℕ) → num vs v ≡ 0) {
       where
         low : (t : ℕ) → t < states (chartOf s) → num ws t < states (chartOf s)
         low t l =
-            let capped = climb-numbers (cleared-numbers n size zeros) (x .climbs) .capped t in
+            let capped = climb-numbers (cleared-numbers n refl (x .zeros)) (x .climbs) .capped t in
             omega (arith, h t (omega (arith, has-states p)), capped, has-states p)
 
         none : (t : ℕ) → t < n → onZeroLoop (chartOf s) t ≡ false
         none t l =
-            let free = no-loop (drawn p) zeros (ranked .climbs) (ranked .quiet) low t in
+            let free = no-loop (drawn p) (ranked .zeros) (ranked .climbs) (ranked .quiet) low t in
             no-test (on-zero-loop-iff (chartOf s) t) free

@@ -1,6 +1,4 @@
-pub mod Passed
 pub mod Bits
-pub mod Own
 pub mod Climb
 pub mod Loops
 pub mod Raised

@@ -14,16 +14,16 @@ use Rattle.tctl.proofs.Passing.{instant}
 use Rattle.model.specs.Engine.{num}
 use Rattle.model.proofs.Numbers.{set-elim}
 use Rattle.loops.specs.declared.Search.the-variants.{Ranks, Batch}
-use Rattle.loops.specs.Climb.{ownBit, offer, Climbs, same, more, Quiet}
+use Rattle.loops.specs.Climb.{ownBit, lift, Climbs, same, more, Quiet}
 use Rattle.loops.proofs.Bits.{Has, has-zero, has-or, has-own}
 
 -- ── Which states are on a loop, of 32: at first no state has a bit ──
 
--- what an arrow to e offers has the bits of its start, those of its end, and the bit of e
-batch-offer :
+-- what an arrow to e makes of its start's number has the bits of its start, those of its end, and the bit of e
+batch-lift :
     (base j : ℕ) → j < 32 → (low high e : ℕ) →
-    Has (offer (Batch base) low high e) j ↔ ((Has low j ⊎ Has high j) ⊎ (e ≡ base + j))
-batch-offer base j l low high e =
+    Has (lift (Batch base) low high e) j ↔ ((Has low j ⊎ Has high j) ⊎ (e ≡ base + j))
+batch-lift base j l low high e =
     let both = has-or low high j in
     let own = has-own base e j l in
     Iff·trans (has-or (bitOr low high) (ownBit base e) j) (⊎-map (both .0) (own .0), ⊎-map (both .1) (own .1))
@@ -39,10 +39,10 @@ module _ {G : Chart} (base : ℕ) {old : List ℕ} (zeros : (s : ℕ) → num ol
       let m = r .drawn in
       let e = r .leaves in
       let z = r .instant in
-      let bits = batch-offer base j l (num vs s) (num vs (a .end)) (a .end) in
+      let bits = batch-lift base j l (num vs s) (num vs (a .end)) (a .end) in
       let before = ⊎-elim (λ k. tells p j l s k) (λ k. next a m e z (tells p j l (a .end) k)) in
       let chain = ⊎-elim before (last a m e z) in
-      let new : Has w j → Instant G (base + j) s = λ k. chain (bits .0 (subst (λ x. Has x j) (r .offered) k)) in
+      let new : Has w j → Instant G (base + j) s = λ k. chain (bits .0 (subst (λ x. Has x j) (r .lifted) k)) in
       set-elim (λ u x. Has x j → Instant G (base + j) u) vs s w new (λ u k. tells p j l u k) t h
 
   module _ {vs : List ℕ} (climbs : Climbs G (Batch base) old vs) (quiet : Quiet G (Batch base) vs) where
@@ -51,7 +51,7 @@ module _ {G : Chart} (base : ℕ) {old : List ℕ} (zeros : (s : ℕ) → num ol
         (j : ℕ) → j < 32 → {s : ℕ} (a : Arrow) → List·Memᴰ a (G .arrows) → a .start ≡ s → a .fewest ≡ 0 →
         Has (num vs (a .end)) j ⊎ (a .end ≡ base + j) → Has (num vs s) j
     start-bit j l a m e z h =
-        let bits = batch-offer base j l (num vs (a .start)) (num vs (a .end)) (a .end) in
+        let bits = batch-lift base j l (num vs (a .start)) (num vs (a .end)) (a .end) in
         let k = subst (λ x. Has x j) (quiet a m z) (bits .1 (⊎-map inr (λ f. f) h)) in
         subst (λ u. Has (num vs u) j) e k
 
@@ -83,7 +83,7 @@ module _ {G : Chart} (dr : Drawn G) {old : List ℕ} (zeros : (s : ℕ) → num 
       let q = walk p (a .end) (dr .ends a (r .drawn)) in
       let x = step-cast (sym (r .leaves)) refl (quickest dr a (r .drawn)) in
       let p′ = step tt x (q .0) in
-      let new : Walk G s w = λ k. (p′, omega (arith, q .1, r .offered, r .higher), omega (arith, q .2, r .instant)) in
+      let new : Walk G s w = λ k. (p′, omega (arith, q .1, r .lifted, r .higher), omega (arith, q .2, r .instant)) in
       set-elim (Walk G) vs s w new (λ u k. walk p u k) t l
 
   module _ {vs : List ℕ} (climbs : Climbs G (Ranks (states G)) old vs) where

@@ -6,10 +6,10 @@ use native.Mathlib.Omega.{arith}
 use lib.ListN.{set}
 use Rattle.model.specs.Engine.{num}
 use Rattle.loops.specs.declared.Search.{Search}
-use Rattle.loops.specs.Parts.{offerAt, Raised}
-use Rattle.loops.proofs.Climb.{offer-up}
+use Rattle.loops.specs.Parts.{liftAt, Raised}
+use Rattle.loops.proofs.Climb.{lift-up}
 
-module _ (search : Search) (s e : ℕ) (old : List ℕ) {w : ℕ} (is : w ≡ offerAt search s e old) where
+module _ (search : Search) (s e : ℕ) (old : List ℕ) {w : ℕ} (is : w ≡ liftAt search s e old) where
   pub rests : w ≡ num old s → Raised search s e 0 old old
   rests h =
       record {
@@ -23,5 +23,5 @@ module _ (search : Search) (s e : ℕ) (old : List ℕ) {w : ℕ} (is : w ≡ of
       record {
         one = omega arith;
         still = λ z. absurd (let z : ⊥ = omega arith in z);
-        higher = λ l. (rw is, omega (arith, offer-up search (num old s) (num old e) e));
+        higher = λ l. (rw is, omega (arith, lift-up search (num old s) (num old e) e));
       }

@@ -13,8 +13,8 @@ use Rattle.outcome.proofs.Lowest.{Least, none-below, some-lowest}
 use Rattle.outcome.proofs.First.{first-met, first-passed, unmet-at, part-zero}
 use Rattle.outcome.proofs.Search.{search-found, search-ended}
 use Rattle.chart.specs.Bytes.{chartOf}
+use Rattle.chart.specs.Shape.{Passed}
 use Rattle.loops.specs.Refusal.{loopRow}
-use Rattle.loops.specs.Parts.{Passed}
 
 module _ {s : List ℕ} {n m : ℕ} (p : Passed s n m) where
   -- n is the number of states in the row

@@ -2,22 +2,15 @@
 use mathlib.Core.Path.{_≡_}
 use mathlib.Core.List.{List}
 use Prim.Native.Nat.{ℕ, _+_, _*_, _≤_, _<_}
-use lib.ListN.{length, getD}
+use lib.ListN.{length}
 use Rattle.tctl.specs.Accepted.{Accepted}
-use Rattle.head.specs.Head.{version, statedLength}
+use Rattle.head.specs.Head.{Headed}
 use Rattle.chart.specs.Bytes.{stateCount, arrowCount, arrowWords, chartOf}
 
--- a list of bytes
-abbrev pub Octets : List ℕ → Type 0
-Octets s = (i : ℕ) → getD s i 0 < 256
-
--- what is asked of the bytes alone: rows 1 to 6, and "fewest 65,535" of row 8
+-- what is asked of the bytes alone: rows 1 to 6, and row 8 of the words
 pub record ChartFormat (s : List ℕ) : Type 0 where
-  pub head : 9 ≤ length s
-  -- "Byte 0 is the version, 1."
-  pub version-one : version s ≡ 1
-  -- "Bytes 1 to 4 give the length of the whole, these five bytes included."
-  pub stated : statedLength s ≡ length s
+  -- 9 bytes at least, version 1, the stated length the real one
+  pub head : Headed 9 s
   -- "n in bytes 5 to 6 (1 to 256)"
   pub some-states : 1 ≤ stateCount s
   pub few-states : stateCount s ≤ 256
@@ -26,8 +19,10 @@ pub record ChartFormat (s : List ℕ) : Type 0 where
   pub few-arrows : arrowCount s ≤ 2048
   -- "Length 9 + 2n + 8m."
   pub whole : length s ≡ 9 + 2 * stateCount s + 8 * arrowCount s
-  -- "fewest is 0 to 65,534"
-  pub fewest : (i : ℕ) → i < arrowCount s → arrowWords s i .fewest ≤ 65534
+  -- not "fewest above most, or fewest 65,535"
+  pub slots :
+      (i : ℕ) → i < arrowCount s →
+      (arrowWords s i .fewest ≤ arrowWords s i .most) × (arrowWords s i .fewest ≡ 65535 → ⊥)
 
 -- the bytes have the format of a chart, and the chart they stand for is accepted
 pub record AcceptedChart (s : List ℕ) : Type 0 where

@@ -17,9 +17,9 @@ ownBit base e = cond (ltb e base) 0 (cond (leb 32 (e - base)) 0 (2 ^ (e - base))
 
 -- what an arrow with fewest 0 makes of its start's number low, by its end e and its end's number high: one more than
 -- high, up to the cap, if that is more than low; or the bits of both, and that of e
-abbrev pub offer : Search → ℕ → ℕ → ℕ → ℕ
-offer (Ranks cap) low high e = max low (min cap (suc high))
-offer (Batch base) low high e = bitOr (bitOr low high) (ownBit base e)
+abbrev pub lift : Search → ℕ → ℕ → ℕ → ℕ
+lift (Ranks cap) low high e = max low (min cap (suc high))
+lift (Batch base) low high e = bitOr (bitOr low high) (ownBit base e)
 
 -- no number is above it
 abbrev pub limit : Search → ℕ
@@ -32,7 +32,7 @@ pub record Raises (G : Chart) (search : Search) (vs : List ℕ) (s w : ℕ) : Ty
   pub drawn : List·Memᴰ arrow (G .arrows)
   pub leaves : arrow .start ≡ s
   pub instant : arrow .fewest ≡ 0
-  pub offered : w ≡ offer search (num vs s) (num vs (arrow .end)) (arrow .end)
+  pub lifted : w ≡ lift search (num vs s) (num vs (arrow .end)) (arrow .end)
   pub higher : num vs s < w
 
 -- the numbers that such raises make of the old ones
@@ -44,7 +44,7 @@ pub data Climbs (G : Chart) (search : Search) (old : List ℕ) : List ℕ → Ty
 abbrev pub Quiet : Chart → Search → List ℕ → Type 0
 Quiet G search vs =
     (a : Arrow) → List·Memᴰ a (G .arrows) → a .fewest ≡ 0 →
-    offer search (num vs (a .start)) (num vs (a .end)) (a .end) ≡ num vs (a .start)
+    lift search (num vs (a .start)) (num vs (a .end)) (a .end) ≡ num vs (a .start)
 
 -- how far the numbers are from the limit, together
 unfoldable pub room : Search → List ℕ → ℕ

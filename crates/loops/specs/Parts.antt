@@ -7,16 +7,9 @@ use lib.ListN.{length, set}
 use Rattle.tctl.specs.Chart.{Chart}
 use Rattle.model.specs.Engine.{num}
 use Rattle.model.specs.ZeroLoop.{onZeroLoop}
-use Rattle.chart.specs.Bytes.{stateCount, arrowCount, arrowWords, chartOf}
-use Rattle.chart.specs.Refusals.{chartRefusal}
+use Rattle.chart.specs.Bytes.{arrowWords, chartOf}
 use Rattle.loops.specs.declared.Search.{Search}
-use Rattle.loops.specs.Climb.{offer, Climbs, Quiet, room}
-
--- a chart with n states and m arrows that passes checks 1 to 9
-pub record Passed (s : List ℕ) (n m : ℕ) : Type 0 where
-  pub states : n ≡ stateCount s
-  pub arrows : m ≡ arrowCount s
-  pub unrefused : chartRefusal s .number ≡ 0
+use Rattle.loops.specs.Climb.{lift, Climbs, Quiet, room}
 
 -- a number for each of n states, up to the cap
 pub record Numbers (n cap : ℕ) (vs : List ℕ) : Type 0 where
@@ -24,20 +17,20 @@ pub record Numbers (n cap : ℕ) (vs : List ℕ) : Type 0 where
   pub capped : (s : ℕ) → num vs s ≤ cap
 
 -- what the arrow from s to e, with fewest 0, makes of the number of s
-abbrev pub offerAt : Search → ℕ → ℕ → List ℕ → ℕ
-offerAt search s e vs = offer search (num vs s) (num vs e) e
+abbrev pub liftAt : Search → ℕ → ℕ → List ℕ → ℕ
+liftAt search s e vs = lift search (num vs s) (num vs e) e
 
 -- the arrow from s to e, with fewest 0, was tried: it raised r numbers, none or one
 pub record Raised (search : Search) (s e r : ℕ) (old new : List ℕ) : Type 0 where
   pub one : r ≤ 1
-  pub still : r ≡ 0 → (new ≡ old) × (offerAt search s e old ≡ num old s)
-  pub higher : 1 ≤ r → (new ≡ set old s (offerAt search s e old)) × (num old s < offerAt search s e old)
+  pub still : r ≡ 0 → (new ≡ old) × (liftAt search s e old ≡ num old s)
+  pub higher : 1 ≤ r → (new ≡ set old s (liftAt search s e old)) × (num old s < liftAt search s e old)
 
 -- arrow i, if its fewest is 0, raises no number
 abbrev pub RestsAt : List ℕ → Search → List ℕ → ℕ → Type 0
 RestsAt s search vs i =
     arrowWords s i .fewest ≡ 0 →
-    offerAt search (arrowWords s i .start) (arrowWords s i .end) vs ≡ num vs (arrowWords s i .start)
+    liftAt search (arrowWords s i .start) (arrowWords s i .end) vs ≡ num vs (arrowWords s i .start)
 
 -- the arrows of the chart s from lo on, below hi, were tried: they raised r numbers
 pub record Climbed (s : List ℕ) (search : Search) (lo hi r : ℕ) (old new : List ℕ) : Type 0 where
@@ -46,10 +39,12 @@ pub record Climbed (s : List ℕ) (search : Search) (lo hi r : ℕ) (old new : L
   pub still : r ≡ 0 → (new ≡ old) × ((i : ℕ) → lo ≤ i → i < hi → RestsAt s search old i)
   pub falls : 1 ≤ r → room search new < room search old
 
--- no arrow raises a number further
-pub record Settled (G : Chart) (search : Search) (old new : List ℕ) : Type 0 where
-  pub climbs : Climbs G search old new
-  pub quiet : Quiet G search new
+-- from numbers that are all 0, no arrow raises a number further
+pub record AtRest (G : Chart) (search : Search) (vs : List ℕ) : Type 0 where
+  pub start : List ℕ
+  pub zeros : (s : ℕ) → num start s ≡ 0
+  pub climbs : Climbs G search start vs
+  pub quiet : Quiet G search vs
 
 -- the states from base on, below end, are a batch of the n states, and no state before them is on a loop
 pub record Batched (G : Chart) (n base end : ℕ) : Type 0 where

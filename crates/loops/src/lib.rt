@@ -9,8 +9,9 @@ ghost use Rattle.model.specs.Engine.{num};
 ghost use Rattle.model.specs.ZeroLoop.{onZeroLoop};
 ghost use Rattle.chart.specs.Bytes.{chartOf};
 ghost use Rattle.loops.specs.Refusal.{loopRow, acceptedRefusal};
-ghost use Rattle.loops.specs.Climb.{ownBit, offer, limit};
-ghost use Rattle.loops.specs.Parts.{Passed, Numbers, Raised, Climbed, Settled, Batched};
+ghost use Rattle.loops.specs.Climb.{ownBit, lift, limit};
+ghost use Rattle.chart.specs.Shape.{Passed};
+ghost use Rattle.loops.specs.Parts.{Numbers, Raised, Climbed, AtRest, Batched};
 use outcome::Outcome;
 
 // What a state's number is: how many arrows with fewest 0 follow one another from it, up to a cap; or to which of the
@@ -49,9 +50,9 @@ fn rank(cap: u32, low: u32, high: u32) -> u32
 }
 
 // What an arrow with fewest 0 makes of its start's number low, by its end e and its end's number high.
-fn offered(search: Search, low: u32, high: u32, e: usize) -> u32
+fn lifted(search: Search, low: u32, high: u32, e: usize) -> u32
     requires { ⌜ high ≤ limit search ⌝ }
-    ensures { λ r. ⌜ r ≡ offer search low high e ⌝ }
+    ensures { λ r. ⌜ r ≡ lift search low high e ⌝ }
 {
     match search {
         Search::Ranks(cap) => rank(cap, low, high),
@@ -67,7 +68,7 @@ fn raise(search: Search, numbers: &mut [u32], s: usize, e: usize) -> u32
 {
     let low = numbers[s];
     let high = numbers[e];
-    let w = offered(search, low, high, e);
+    let w = lifted(search, low, high, e);
     if w == low {
         return 0;
     }
@@ -108,14 +109,6 @@ fn climb_round(search: Search, chart: &[u8], n: usize, m: usize, numbers: &mut [
     raised
 }
 
-// Rounds until none raises a number.
-fn settle(search: Search, chart: &[u8], n: usize, m: usize, numbers: &mut [u32])
-    requires { ⌜ Passed (now chart) n m × Numbers n (limit search) (now numbers) ⌝ }
-    ensures { λ _. ⌜ Settled (chartOf (now (chart .entry))) search (now (numbers .entry)) (now (numbers .exit)) ⌝ }
-{
-    while climb_round(search, chart, n, m, numbers) != 0 {}
-}
-
 fn clear(numbers: &mut [u32])
     ensures { λ _. ⌜ ((s : ℕ) → num (now (numbers .exit)) s ≡ 0) ⌝ }
 {
@@ -126,14 +119,22 @@ fn clear(numbers: &mut [u32])
     }
 }
 
+// Rounds from 0 on, until none raises a number.
+fn climb_from_zero(search: Search, chart: &[u8], n: usize, m: usize, numbers: &mut [u32])
+    requires { ⌜ Passed (now chart) n m × (length (now numbers) ≡ n) ⌝ }
+    ensures { λ _. ⌜ AtRest (chartOf (now (chart .entry))) search (now (numbers .exit)) ⌝ }
+{
+    clear(numbers);
+    while climb_round(search, chart, n, m, numbers) != 0 {}
+}
+
 // Whether there is a loop: only round a loop do n arrows with fewest 0 follow one another.
 fn some_loop(chart: &[u8], n: usize, m: usize, numbers: &mut [u32]) -> bool
     requires { ⌜ Passed (now chart) n m × (length (now numbers) ≡ n) ⌝ }
     ensures { λ r. ⌜ r ≡ found (lowest (onZeroLoop (chartOf (now (chart .entry)))) n) ⌝ }
 {
     let cap = n as u32;
-    clear(numbers);
-    settle(Search::Ranks(cap), chart, n, m, numbers);
+    climb_from_zero(Search::Ranks(cap), chart, n, m, numbers);
     let mut s = 0;
     while s < n {
         if numbers[s] == cap {
@@ -156,8 +157,7 @@ fn batch_refusal(
     requires { ⌜ Passed (now chart) n m × (length (now numbers) ≡ n) × Batched (chartOf (now chart)) n base end ⌝ }
     ensures { λ r. ⌜ r ≡ first (refuse 19 (lowest (onZeroLoop (chartOf (now (chart .entry)))) end) ∷ []) ⌝ }
 {
-    clear(numbers);
-    settle(Search::Batch(base), chart, n, m, numbers);
+    climb_from_zero(Search::Batch(base), chart, n, m, numbers);
     let mut g = base;
     while g < end {
         let j = g - base;
@@ -169,7 +169,8 @@ fn batch_refusal(
     outcome::accepted()
 }
 
-fn nearer(a: usize, b: usize) -> usize
+// The lesser of two numbers.
+fn lesser(a: usize, b: usize) -> usize
     ensures { λ r. ⌜ r ≡ min a b ⌝ }
 {
     if a < b {
@@ -185,7 +186,7 @@ fn lowest_on_loop(chart: &[u8], n: usize, m: usize, numbers: &mut [u32]) -> Outc
 {
     let mut base = 0;
     while base < n {
-        let end = nearer(base + 32, n);
+        let end = lesser(base + 32, n);
         let batch = batch_refusal(chart, n, m, base, end, numbers);
         if batch.number != 0 {
             return batch;

@@ -1,5 +1,5 @@
 -- The detail rule: when one chart is a detail of another, and what that buys. The quoted sentences are of 01, "Refused
--- with number and place", unless another part is named.
+-- with number and place".
 use mathlib.Core.Path.{_≡_}
 use mathlib.Core.List.{List·Memᴰ}
 use Prim.Native.Nat.{ℕ, _≤_, _<_}
@@ -13,7 +13,7 @@ Contains noEnd m = Unit {0}
 Contains (upTo k) (upTo m) = m ≤ k
 Contains (upTo k) noEnd = ⊥
 
--- the overview arrow b, "from the start's mapped state to the end's, has a slot containing the whole slot" of a
+-- the overview arrow b, "from the start's mapped state to the end's has a slot containing the whole slot" of a
 pub record Covers (f : ℕ → ℕ) (a b : Arrow) : Type 0 where
   pub leaves : b .start ≡ f (a .start)
   pub enters : b .end ≡ f (a .end)

@@ -13,9 +13,9 @@ pub leb-iff : (m n : ℕ) → (leb m n ≡ true) ↔ (m ≤ n)
 leb-iff m n = (leb-true m n, le-leb m n)
 
 -- m is not under n
-pub under-iff : (m n : ℕ) → (ltb m n ≡ false) ↔ (n ≤ m)
-under-iff m n = (ltb-false m n, le-ltb m n)
+pub not-under-iff : (m n : ℕ) → (ltb m n ≡ false) ↔ (n ≤ m)
+not-under-iff m n = (ltb-false m n, le-ltb m n)
 
 -- m does not differ from n
-pub differ-iff : (m n : ℕ) → (not (eqb m n) ≡ false) ↔ (m ≡ n)
-differ-iff m n = (λ e. eqb-true m n (not-false (eqb m n) e), λ e. ap not (eq-eqb m n e))
+pub not-differ-iff : (m n : ℕ) → (not (eqb m n) ≡ false) ↔ (m ≡ n)
+not-differ-iff m n = (λ e. eqb-true m n (not-false (eqb m n) e), λ e. ap not (eq-eqb m n e))

@@ -8,7 +8,7 @@ returns : tie.Need-returns
 returns c = simp (eq-eqb (c .before .args .by) 65535 (c .if1 .taken))
 
 returns-2 : tie.Need-returns-2
-returns-2 c = contains-word (c .before .args .by) (c .before .args .m) (c .before .pre) (c .if1 .left)
+returns-2 c = contains-word (c .before .args .by) (c .before .args .most) (c .before .pre) (c .if1 .left)
 
 pub contains-most-spec : {M : Type 1} → statement M
 contains-most-spec = tie.close (tie.spec returns returns-2)

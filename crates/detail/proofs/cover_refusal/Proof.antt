@@ -8,7 +8,7 @@ use denote.Ref.{now}
 use Rattle.outcome.proofs.Search.{search-found, search-ended}
 use Rattle.chart.specs.declared.ArrowWords.{ArrowWords}
 use Rattle.chart.proofs.Arrow.{arrow-inside}
-use Rattle.loops.proofs.Passed.{shaped, arrow-ends}
+use Rattle.chart.proofs.Reading.{shaped, arrow-ends}
 use Rattle.detail.specs.Covered.{coveredAt}
 use Rattle.detail.proofs.Tested.{covered-read}
 use Rattle.detail.proofs.cover_refusal.Statement.{statement}

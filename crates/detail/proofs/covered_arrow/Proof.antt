@@ -7,7 +7,7 @@ use borrow.Author.Count.{below-none, below-more}
 use denote.Ref.{now}
 use Rattle.chart.specs.Bytes.{arrowWords, arrowOf}
 use Rattle.chart.proofs.Arrow.{arrow-inside}
-use Rattle.loops.proofs.Passed.{shaped}
+use Rattle.chart.proofs.Reading.{shaped}
 use Rattle.detail.specs.Covered.{covers}
 use Rattle.detail.proofs.Tested.{covers-read, covered-found, covered-not}
 use Rattle.detail.proofs.covered_arrow.Statement.{statement}

@@ -5,7 +5,7 @@ use native.Mathlib.Omega.{arith}
 use borrow.Author.Needs.{needs}
 use denote.Ref.{now}
 use Rattle.head.proofs.Passed.{head-passed}
-use Rattle.detail.proofs.Form.{form-refuses, form-passes, unheaded, formed}
+use Rattle.detail.proofs.Format.{form-refuses, form-passes, unheaded, formed}
 use Rattle.detail.proofs.form_refusal.Statement.{statement}
 use Rattle.detail.proofs.form_refusal.Tie as tie
 

@@ -1,25 +1,37 @@
 -- Invariant: no labels before state d differ.
 use mathlib.Core.Path.{_≡_, _∙_}
-use mathlib.Core.Bool.{false, not}
+use mathlib.Core.Bool.{true, false}
 use Prim.Native.Nat.{ℕ, _≤_, _<_, _-_}
 use native.Mathlib.Omega.{arith}
-use lib.Dec.{eqb}
 use borrow.Author.Count.{below-none, below-more}
 use denote.Ref.{now}
 use Rattle.outcome.proofs.Search.{search-found, search-ended}
-use Rattle.chart.specs.Bytes.{labelWord}
-use Rattle.loops.proofs.Passed.{shaped}
-use Rattle.detail.specs.Bytes.{entry}
-use Rattle.detail.proofs.Tested.{labels-differ, labels-same}
+use Rattle.chart.proofs.Reading.{shaped}
+use Rattle.detail.proofs.Tested.{differ, labels-told}
 use Rattle.detail.proofs.label_refusal.Statement.{statement}
 use Rattle.detail.proofs.label_refusal.Tie as tie
 
 abbrev Inv-loop : tie.InvT-loop
 Inv-loop detail n m overview k l map d₀ d =
-    (d ≤ n) × ((v : ℕ) → v < d → not (eqb (labelWord detail v) (labelWord overview (entry map v))) ≡ false)
+    (d ≤ n) × ((v : ℕ) → v < d → differ detail overview map v ≡ false)
 
 abbrev μ-loop : tie.MeasureT-loop
 μ-loop detail n m overview k l map d₀ d = n - d
+
+-- what the words that were read tell of the labels
+told :
+    (c : tie.After-label-word2 Inv-loop μ-loop) →
+    let at-loop = c .before .before .before .before in
+    let a = at-loop .before .before .before .before .args in
+    let offends = differ (now (a .detail)) (now (a .overview)) (now (a .map)) (at-loop .loop .d) in
+    let x = c .before .before .label-word .result in
+    let y = c .label-word2 .result in
+    (¬ (x ≡ y) → offends ≡ true) × (x ≡ y → offends ≡ false)
+told c =
+    let at-loop = c .before .before .before .before in
+    let a = at-loop .before .before .before .before .args in
+    labels-told (now (a .detail)) (now (a .overview)) (now (a .map)) (at-loop .loop .d)
+    (c .before .before .label-word .ensures .0) (c .before .entry-at .ensures .0) (c .label-word2 .ensures .0)
 
 loop-holds : tie.Need-loop-holds Inv-loop μ-loop
 loop-holds c = (omega arith, below-none _)
@@ -47,16 +59,9 @@ refused-requires c κs = tt
 
 returns : tie.Need-returns Inv-loop μ-loop
 returns c =
-    let tested = c .before in
-    let read = tested .before in
-    let at-loop = read .before .before .before .before in
-    let a = at-loop .before .before .before .before .args in
-    let loop = at-loop .loop in
-    let own = read .before .before .label-word .ensures .0 in
-    let is = read .before .entry-at .ensures .0 in
-    let other = read .label-word2 .ensures .0 in
-    let differ = tested .if1 .taken in
-    let e = labels-differ (now (a .detail)) (now (a .overview)) (now (a .map)) (loop .d) own is other differ in
+    let read = c .before .before in
+    let loop = read .before .before .before .before .loop in
+    let e = told read .0 (c .before .if1 .taken) in
     c .refused .ensures ∙ search-found 22 (record { inside = omega arith; offends = e; under = loop .inv .1 })
 
 add-d : tie.Need-add-d Inv-loop μ-loop
@@ -68,15 +73,8 @@ loop-less c = omega arith
 loop-again : tie.Need-loop-again Inv-loop μ-loop
 loop-again c =
     let read = c .before in
-    let at-loop = read .before .before .before .before in
-    let a = at-loop .before .before .before .before .args in
-    let loop = at-loop .loop in
-    let own = read .before .before .label-word .ensures .0 in
-    let is = read .before .entry-at .ensures .0 in
-    let other = read .label-word2 .ensures .0 in
-    let same = c .if1 .left in
-    let e = labels-same (now (a .detail)) (now (a .overview)) (now (a .map)) (loop .d) own is other same in
-    (omega arith, below-more _ (loop .d) (loop .inv .1) e)
+    let loop = read .before .before .before .before .loop in
+    (omega arith, below-more _ (loop .d) (loop .inv .1) (told read .1 (c .if1 .left)))
 
 accepted-requires : tie.Need-accepted-requires Inv-loop μ-loop
 accepted-requires c κs = tt

@@ -1,7 +1,7 @@
 -- Row 21, then rows 22 and 23.
 use denote.Ref.{now}
 use Rattle.outcome.proofs.First.{part-refuses, part-passes}
-use Rattle.loops.proofs.Passed.{shaped}
+use Rattle.chart.proofs.Reading.{shaped}
 use Rattle.detail.proofs.Chain.{mapped}
 use Rattle.detail.proofs.mapped_refusal.Statement.{statement}
 use Rattle.detail.proofs.mapped_refusal.Tie as tie
@@ -14,8 +14,8 @@ entry-refusal-requires c κs =
 returns : tie.Need-returns
 returns c = part-refuses _ _ (c .before .before .entry-refusal .ensures) (c .if1 .taken)
 
-under-refusal-requires : tie.Need-under-refusal-requires
-under-refusal-requires c κs =
+last-refusal-requires : tie.Need-last-refusal-requires
+last-refusal-requires c κs =
     let entered = c .before .before in
     let start = entered .before .before .before .before in
     let p = start .pre in
@@ -25,8 +25,8 @@ under-refusal-requires c κs =
 returns-2 : tie.Need-returns-2
 returns-2 c =
     let entries = c .before .before .before .entry-refusal .ensures in
-    part-passes _ _ tt entries (c .before .if1 .left) (c .under-refusal .ensures)
+    part-passes _ _ tt entries (c .before .if1 .left) (c .last-refusal .ensures)
 
 pub mapped-refusal-spec : {M : Type 1} → statement M
 mapped-refusal-spec =
-    tie.close (tie.spec entry-refusal-requires returns under-refusal-requires returns-2)
+    tie.close (tie.spec entry-refusal-requires returns last-refusal-requires returns-2)

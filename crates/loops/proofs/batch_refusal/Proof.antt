@@ -8,9 +8,7 @@ use denote.Ref.{now}
 use Rattle.model.specs.ZeroLoop.{onZeroLoop}
 use Rattle.outcome.proofs.Search.{search-found, search-ended}
 use Rattle.chart.specs.Bytes.{chartOf}
-use Rattle.loops.proofs.Climb.{climb-size}
-use Rattle.loops.proofs.Passed.{shaped}
-use Rattle.loops.proofs.Cleared.{cleared-numbers}
+use Rattle.chart.proofs.Reading.{shaped}
 use Rattle.loops.proofs.Decided.{own-bit-set, own-bit-clear}
 use Rattle.loops.proofs.batch_refusal.Statement.{statement}
 use Rattle.loops.proofs.batch_refusal.Tie as tie
@@ -22,71 +20,55 @@ Inv-loop chart n m base end numbers g₀ g =
 abbrev μ-loop : tie.MeasureT-loop
 μ-loop chart n m base end numbers g₀ g = end - g
 
-clear-requires : tie.Need-clear-requires Inv-loop μ-loop
-clear-requires c κs = tt
-
-settle-requires : tie.Need-settle-requires Inv-loop μ-loop
-settle-requires c κs =
-    let cleared = c .before .before .before in
-    let p = cleared .before .before .before .before .pre in
-    (p .0, cleared-numbers _ (cleared .clear .kept .0 ∙ p .1) (cleared .clear .ensures))
+climb-from-zero-requires : tie.Need-climb-from-zero-requires Inv-loop μ-loop
+climb-from-zero-requires c κs =
+    let p = c .before .before .before .pre in
+    (p .0, p .1)
 
 loop-holds : tie.Need-loop-holds Inv-loop μ-loop
-loop-holds c =
-    let cleared = c .before .before .before .before .before .before in
-    (omega arith, cleared .before .before .before .before .pre .2 .before)
+loop-holds c = (omega arith, c .before .before .before .before .before .before .pre .2 .before)
 
 sub-j : tie.Need-sub-j Inv-loop μ-loop
 sub-j c = c .before .loop .inv .0
 
 mul-if1 : tie.Need-mul-if1 Inv-loop μ-loop
 mul-if1 c =
-    let p = c .before .before .before .before .before .before .before .before .before .before .before .before .pre in
+    let p = c .before .before .before .before .before .before .before .before .pre in
     omega (arith, shaped (p .0) .few-states, p .2 .inside)
 
 slice-read-if1 : tie.Need-slice-read-if1 Inv-loop μ-loop
 slice-read-if1 c =
-    let settled = c .before .before .before .before .before in
-    let cleared = settled .before .before .before .before in
-    let p = cleared .before .before .before .before .pre in
-    let size = climb-size (settled .settle .ensures .climbs) ∙ cleared .clear .kept .0 ∙ p .1 in
-    omega (arith, size, p .2 .inside)
+    let climbed = c .before .before .before .before .before in
+    let p = climbed .before .before .before .before .pre in
+    omega (arith, climbed .climb-from-zero .kept .1 .1 .1 .1 .0, p .1, p .2 .inside)
 
 cast-if1 : tie.Need-cast-if1 Inv-loop μ-loop
-cast-if1 c =
-    let cleared = c .before .before .before .before .before .before .before .before .before in
-    omega (arith, cleared .before .before .before .before .pre .2 .few)
+cast-if1 c = omega (arith, c .before .before .before .before .before .before .before .before .before .pre .2 .few)
 
 shr-if1 : tie.Need-shr-if1 Inv-loop μ-loop
 shr-if1 c =
-    let cleared = c .before .before .before .before .before .before .before .before .before in
-    omega (arith, cleared .before .before .before .before .pre .2 .few, c .before .before .loop .inv .0)
+    let at-loop = c .before .before in
+    omega (arith, at-loop .before .before .before .before .before .before .before .pre .2 .few, at-loop .loop .inv .0)
 
 cast-refused : tie.Need-cast-refused Inv-loop μ-loop
 cast-refused c =
-    let cleared = c .before .before .before .before .before .before .before .before .before .before in
-    let p = cleared .before .before .before .before .pre in
+    let p = c .before .before .before .before .before .before .before .before .before .before .pre in
     omega (arith, shaped (p .0) .few-states, p .2 .inside)
 
 refused-requires : tie.Need-refused-requires Inv-loop μ-loop
 refused-requires c κs = tt
 
 same-length : tie.Need-same-length Inv-loop μ-loop
-same-length c =
-    let settled = c .before .before .before .before .before .before .before in
-    let cleared = settled .before .before .before .before in
-    climb-size (settled .settle .ensures .climbs) ∙ cleared .clear .kept .0
+same-length c = c .before .before .before .before .before .before .before .climb-from-zero .kept .1 .1 .1 .1 .0
 
 returns : tie.Need-returns Inv-loop μ-loop
 returns c =
     let in-loop = c .before .before .before in
     let loop = in-loop .before .loop in
-    let settled = in-loop .before .before .before .before in
-    let cleared = settled .before .before .before .before in
-    let start = cleared .before .before .before .before in
+    let climbed = in-loop .before .before .before .before in
+    let start = climbed .before .before .before .before in
     let on =
-    own-bit-set (now (start .args .chart)) (cleared .clear .ensures) (settled .settle .ensures) (loop .g)
-    (loop .inv .0)
+    own-bit-set (now (start .args .chart)) (climbed .climb-from-zero .ensures) (loop .g) (loop .inv .0)
     (omega (arith, start .pre .2 .few, in-loop .loop-test .taken)) (c .before .if1 .taken) in
     c .refused .ensures ∙
     search-found 19 (record { inside = in-loop .loop-test .taken; offends = on; under = loop .inv .1 })
@@ -101,12 +83,10 @@ loop-again : tie.Need-loop-again Inv-loop μ-loop
 loop-again c =
     let in-loop = c .before .before in
     let loop = in-loop .before .loop in
-    let settled = in-loop .before .before .before .before in
-    let cleared = settled .before .before .before .before in
-    let start = cleared .before .before .before .before in
+    let climbed = in-loop .before .before .before .before in
+    let start = climbed .before .before .before .before in
     let off =
-    own-bit-clear (now (start .args .chart)) (cleared .clear .ensures) (settled .settle .ensures) (loop .g)
-    (loop .inv .0)
+    own-bit-clear (now (start .args .chart)) (climbed .climb-from-zero .ensures) (loop .g) (loop .inv .0)
     (omega (arith, start .pre .2 .few, in-loop .loop-test .taken)) (c .if1 .left) in
     (omega (arith, loop .inv .0), below-more _ (loop .g) (loop .inv .1) off)
 
@@ -114,10 +94,7 @@ accepted-requires : tie.Need-accepted-requires Inv-loop μ-loop
 accepted-requires c κs = tt
 
 same-length-2 : tie.Need-same-length-2 Inv-loop μ-loop
-same-length-2 c =
-    let settled = c .before .before .before .before .before in
-    let cleared = settled .before .before .before .before in
-    climb-size (settled .settle .ensures .climbs) ∙ cleared .clear .kept .0
+same-length-2 c = c .before .before .before .before .before .climb-from-zero .kept .1 .1 .1 .1 .0
 
 returns-2 : tie.Need-returns-2 Inv-loop μ-loop
 returns-2 c = c .accepted .ensures ∙ search-ended 19 (λ v l. c .before .before .loop .inv .1 v (omega arith))
@@ -128,8 +105,7 @@ batch-refusal-spec =
     (tie.spec
     Inv-loop
     μ-loop
-    clear-requires
-    settle-requires
+    climb-from-zero-requires
     loop-holds
     sub-j
     mul-if1

@@ -4,7 +4,7 @@ use native.Mathlib.Omega.{arith}
 use borrow.Author.Needs.{needs}
 use Rattle.chart.specs.declared.ArrowWords.{ArrowWords}
 use Rattle.chart.proofs.Arrow.{arrow-inside}
-use Rattle.loops.proofs.Passed.{shaped, arrow-ends}
+use Rattle.chart.proofs.Reading.{shaped, arrow-ends}
 use Rattle.loops.proofs.Climbed.{climbed-not, climbed-one}
 use Rattle.loops.proofs.climb_arrow.Statement.{statement}
 use Rattle.loops.proofs.climb_arrow.Tie as tie

@@ -7,7 +7,7 @@ use lib.ListN.{length}
 use borrow.Author.Count.{below-none}
 use Rattle.model.specs.ZeroLoop.{onZeroLoop}
 use Rattle.chart.specs.Bytes.{chartOf}
-use Rattle.loops.proofs.Passed.{shaped}
+use Rattle.chart.proofs.Reading.{shaped}
 use Rattle.loops.proofs.Row.{row-unmet, batch-passed, batch-met}
 use Rattle.loops.proofs.lowest_on_loop.Statement.{statement}
 use Rattle.loops.proofs.lowest_on_loop.Tie as tie
@@ -22,17 +22,17 @@ abbrev μ-loop : tie.MeasureT-loop
 loop-holds : tie.Need-loop-holds Inv-loop μ-loop
 loop-holds c = (omega arith, refl, below-none _)
 
-add-nearer : tie.Need-add-nearer Inv-loop μ-loop
-add-nearer c = omega (arith, shaped (c .before .before .before .before .pre .0) .few-states)
+add-lesser : tie.Need-add-lesser Inv-loop μ-loop
+add-lesser c = omega (arith, shaped (c .before .before .before .before .pre .0) .few-states)
 
-nearer-requires : tie.Need-nearer-requires Inv-loop μ-loop
-nearer-requires c κs = tt
+lesser-requires : tie.Need-lesser-requires Inv-loop μ-loop
+lesser-requires c κs = tt
 
 batch-refusal-requires : tie.Need-batch-refusal-requires Inv-loop μ-loop
 batch-refusal-requires c κs =
     let inv = c .before .before .before .loop .inv in
     let p = c .before .before .before .before .before .before .pre in
-    let end = c .before .nearer .ensures in
+    let end = c .before .lesser .ensures in
     (p .0, inv .1 ∙ p .1, record { few = omega (arith, end); inside = omega (arith, end); before = inv .2 })
 
 same-length : tie.Need-same-length Inv-loop μ-loop
@@ -43,22 +43,22 @@ same-length c =
 returns : tie.Need-returns Inv-loop μ-loop
 returns c =
     let batch = c .before .before .before .before in
-    let nearer = batch .before .before in
-    let p = nearer .before .before .before .before .before .pre in
-    batch-met (p .0) (batch .batch-refusal .ensures) (omega (arith, nearer .nearer .ensures)) (c .if1 .taken)
+    let lesser = batch .before .before in
+    let p = lesser .before .before .before .before .before .pre in
+    batch-met (p .0) (batch .batch-refusal .ensures) (omega (arith, lesser .lesser .ensures)) (c .if1 .taken)
 
 loop-less : tie.Need-loop-less Inv-loop μ-loop
 loop-less c =
-    let nearer = c .before .before .before .before .before .before in
-    omega (arith, nearer .nearer .ensures, nearer .before .loop-test .taken)
+    let lesser = c .before .before .before .before .before .before in
+    omega (arith, lesser .lesser .ensures, lesser .before .loop-test .taken)
 
 loop-again : tie.Need-loop-again Inv-loop μ-loop
 loop-again c =
     let batch = c .before .before .before .before in
-    let nearer = batch .before .before in
-    let at-loop = nearer .before .before in
+    let lesser = batch .before .before in
+    let at-loop = lesser .before .before in
     let p = at-loop .before .before .before .pre in (
-      omega (arith, nearer .nearer .ensures),
+      omega (arith, lesser .lesser .ensures),
       batch .batch-refusal .kept .1 .1 .1 .1 .1 .0 ∙ at-loop .loop .inv .1,
       batch-passed (p .0) (batch .batch-refusal .ensures) (c .if1 .left),
     )
@@ -82,8 +82,8 @@ lowest-on-loop-spec =
     Inv-loop
     μ-loop
     loop-holds
-    add-nearer
-    nearer-requires
+    add-lesser
+    lesser-requires
     batch-refusal-requires
     same-length
     returns

@@ -2,7 +2,7 @@
 use Prim.Native.Nat.{_-_}
 use borrow.Author.Tests.{lt-ltb, le-ltb, le-leb, lt-leb}
 use borrow.Author.Needs.{needs}
-use Rattle.loops.proofs.Own.{shift-bit}
+use Rattle.loops.proofs.Bits.{shift-bit}
 use Rattle.loops.proofs.own_bit.Statement.{statement}
 use Rattle.loops.proofs.own_bit.Tie as tie
 

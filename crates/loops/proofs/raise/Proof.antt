@@ -1,4 +1,4 @@
--- The offer is the number already, or it is more.
+-- The lift is the number already, or it is more.
 use borrow.Author.Needs.{needs}
 use Rattle.loops.proofs.Raised.{rests, rises}
 use Rattle.loops.proofs.raise.Statement.{statement}
@@ -16,11 +16,11 @@ mul-high c = search needs
 slice-read-high : tie.Need-slice-read-high
 slice-read-high c = search needs
 
-offered-requires : tie.Need-offered-requires
-offered-requires c κs = c .before .before .before .pre .1 _
+lifted-requires : tie.Need-lifted-requires
+lifted-requires c κs = c .before .before .before .pre .1 _
 
 returns : tie.Need-returns
-returns c = rests _ _ _ _ (c .before .offered .ensures) (c .if1 .taken)
+returns c = rests _ _ _ _ (c .before .lifted .ensures) (c .if1 .taken)
 
 mul-numbers : tie.Need-mul-numbers
 mul-numbers c = search needs
@@ -32,7 +32,7 @@ same-length : tie.Need-same-length
 same-length c = search needs
 
 returns-2 : tie.Need-returns-2
-returns-2 c = rises _ _ _ _ (c .before .offered .ensures) (c .if1 .left)
+returns-2 c = rises _ _ _ _ (c .before .lifted .ensures) (c .if1 .left)
 
 pub raise-spec : {M : Type 1} → statement M
 raise-spec =
@@ -42,7 +42,7 @@ raise-spec =
     slice-read-low
     mul-high
     slice-read-high
-    offered-requires
+    lifted-requires
     returns
     mul-numbers
     slice-write-numbers

@@ -1,7 +1,7 @@
 -- The two searches.
 use borrow.Author.Needs.{needs}
-use Rattle.loops.proofs.offered.Statement.{statement}
-use Rattle.loops.proofs.offered.Tie as tie
+use Rattle.loops.proofs.lifted.Statement.{statement}
+use Rattle.loops.proofs.lifted.Tie as tie
 
 enum-known-search : tie.Need-enum-known-search
 enum-known-search c = search needs
@@ -21,8 +21,8 @@ returns c = rw (c .before .before .search .given .1) (c .rank .ensures)
 returns-2 : tie.Need-returns-2
 returns-2 c = rw (c .before .before .search2 .given .1, c .own-bit .ensures)
 
-pub offered-spec : {M : Type 1} → statement M
-offered-spec =
+pub lifted-spec : {M : Type 1} → statement M
+lifted-spec =
     tie.close
     (tie.spec
     enum-known-search

@@ -1,7 +1,7 @@
 -- Row 22, then row 23.
 use Rattle.outcome.proofs.First.{part-refuses, part-passes}
-use Rattle.detail.proofs.under_refusal.Statement.{statement}
-use Rattle.detail.proofs.under_refusal.Tie as tie
+use Rattle.detail.proofs.last_refusal.Statement.{statement}
+use Rattle.detail.proofs.last_refusal.Tie as tie
 
 label-refusal-requires : tie.Need-label-refusal-requires
 label-refusal-requires c κs = c .before .before .before .pre
@@ -17,6 +17,6 @@ returns-2 c =
     let labels = c .before .before .before .label-refusal .ensures in
     part-passes _ _ tt labels (c .before .if1 .left) (c .cover-refusal .ensures)
 
-pub under-refusal-spec : {M : Type 1} → statement M
-under-refusal-spec =
+pub last-refusal-spec : {M : Type 1} → statement M
+last-refusal-spec =
     tie.close (tie.spec label-refusal-requires returns cover-refusal-requires returns-2)

@@ -1,15 +1,14 @@
--- What passing checks 1 to 9 leaves for the climb.
+-- What a chart that passes checks 1 to 9 leaves for reading its arrows.
 use mathlib.Core.Path.{_≡_, sym, subst₂}
 use mathlib.Core.List.{List}
 use Prim.Native.Nat.{ℕ, _<_}
 use native.Mathlib.Omega.{arith}
 use Rattle.tctl.specs.Chart.{states}
 use Rattle.tctl.proofs.Drawn.{Drawn}
 use Rattle.chart.specs.Bytes.{arrowWords, chartOf}
-use Rattle.chart.specs.Shape.{Shape}
+use Rattle.chart.specs.Shape.{Shape, Passed}
 use Rattle.chart.proofs.Accepted.{Checked, checked, chart-named, chart-slots}
 use Rattle.chart.proofs.Chart.{states-of}
-use Rattle.loops.specs.Parts.{Passed}
 
 module _ {s : List ℕ} {n m : ℕ} (p : Passed s n m) where
   ok : Checked s

@@ -1,0 +1,44 @@
+-- Map check accepts just where the premises of the detail rule hold.
+use mathlib.Core.Path.{_≡_}
+use mathlib.Core.Logic.{_↔_, Iff·rfl, Iff·symm, Iff·trans, Iff·and}
+use mathlib.Core.List.{List, _++_}
+use Prim.Native.Nat.{ℕ}
+use Rattle.outcome.specs.Refusal.{success, shifted}
+use Rattle.outcome.proofs.First.{Unmet, Numbered, success-iff}
+use Rattle.outcome.proofs.Unmet.{unmet-append-iff}
+use Rattle.outcome.proofs.Shift.{shift-unmet-iff}
+use Rattle.chart.specs.Refusals.{chartTable}
+use Rattle.loops.specs.Refusal.{loopRow, acceptedTable}
+use Rattle.loops.specs.Accepted.{AcceptedChart}
+use Rattle.loops.proofs.Accepted.{accepted-numbered, accepted-iff}
+use Rattle.detail.specs.Refusals.{mapTable, mapCheckTable, mapRefusal}
+use Rattle.detail.proofs.Under.{map-iff}
+use Rattle.demands.specs.DetailRule.{Premises}
+
+chart-iff : (s : List ℕ) → Unmet (acceptedTable s) ↔ AcceptedChart s
+chart-iff s = Iff·trans (Iff·symm (success-iff (acceptedTable s) (accepted-numbered s))) (accepted-iff s)
+
+module _ (d o p : List ℕ) where
+  numbered : Numbered (mapCheckTable d o p) × Numbered (mapTable d o p)
+  unfolding mapCheckTable acceptedTable chartTable loopRow mapTable
+  numbered = (tt, tt)
+
+  -- no row of map check is met just where none is of the detail's, of the overview's and of the map's
+  parts-iff :
+      Unmet (mapCheckTable d o p) ↔ ((Unmet (acceptedTable d) × Unmet (acceptedTable o)) × Unmet (mapTable d o p))
+  unfolding mapCheckTable
+  parts-iff =
+      let x = acceptedTable d in
+      let y = acceptedTable o in
+      let charts = Iff·trans (unmet-append-iff x (shifted 40 y)) (Iff·and Iff·rfl (shift-unmet-iff 40 y)) in
+      Iff·trans (unmet-append-iff (x ++ shifted 40 y) (mapTable d o p)) (Iff·and charts Iff·rfl)
+
+  -- Part by part: the rows of each chart ask that it be accepted, those of the map its format and that it join the two.
+  pub map-check-exact : (mapRefusal d o p ≡ success) ↔ Premises d o p
+  map-check-exact =
+      let map = Iff·trans (Iff·symm (success-iff (mapTable d o p) (numbered .1))) (map-iff d o p) in
+      let parts = Iff·trans parts-iff (Iff·and (Iff·and (chart-iff d) (chart-iff o)) map) in
+      Iff·trans (Iff·trans (success-iff (mapCheckTable d o p) (numbered .0)) parts) (
+        λ w. record { detail = w .0 .0; overview = w .0 .1; map = w .1 .0; under = w .1 .1 },
+        λ h. ((h .detail, h .overview), (h .map, h .under)),
+      )
