@@ -13,11 +13,12 @@ use Rattle.loops.specs.Accepted.{AcceptedChart}
 use Rattle.detail.specs.Bytes.{entry, MapFormat}
 
 -- what the detail rule asks of a detail chart d, an overview o and a map p: both charts accepted, the map in its
--- format, and the detail one under the overview, a state standing "for the overview state that" its entry "names"
+-- format, and the detail one under the overview
 pub record Premises (d o p : List ℕ) : Type 0 where
   pub detail : AcceptedChart d
   pub overview : AcceptedChart o
   pub map : MapFormat p (stateCount d)
+  -- a state s "stands for the overview state that entry" s "of the map names"
   pub under : Detail (chartOf d) (chartOf o) (entry p)
 
 -- what it says of a rule r, for each kind that r has: "A rule of both kinds counts as of each."

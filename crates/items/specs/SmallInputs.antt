@@ -1,5 +1,5 @@
--- The column "Small input" of 01's table, rows 1 to 16 and 19 to 23, with an input for each sentence that 01 has beside
--- it: "lowest state on one", "the same plus 40", "several joined don't count", "'No end' contains every most".
+-- The column "Small input" of 01's table, rows 1 to 16 and 19 to 23, and inputs for what 01 says beside it, as "lowest
+-- state on one", "the same plus 40", "several joined don't count" and "'No end' contains every most".
 use mathlib.Core.List.{List, [], _∷_, _++_}
 use Prim.Native.Nat.{ℕ, _+_, _/_}
 use lib.ListN.{length, take}

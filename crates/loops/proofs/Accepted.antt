@@ -68,7 +68,7 @@ module _ (s : List ℕ) where
         let l : v < stateCount s = omega (arith, chain-below (drawn passed) c, states-of s) in
         false≢true (sym (none-below (onZeroLoop G) (stateCount s) no-loops v l) ∙ on-zero-loop-iff G v .1 c)
 
-    -- nothing is asked of the bytes for the meaning
+    -- rows 7 to 9 and 19 are the premises of the theory
     pub accepted-only : Accepted (chartOf s)
     accepted-only = chart-accepted s ok timed
 

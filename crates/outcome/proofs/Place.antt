@@ -1,12 +1,13 @@
 -- Conditions that are not met, and a place that may be none, of a search that goes on to the next number.
-use mathlib.Core.Path.{_≡_, refl, sym}
+use mathlib.Core.Path.{_≡_, refl, sym, ap}
 use mathlib.Core.Bool.{Bool, true, false, not, false≢true}
 use mathlib.Core.Option.{Option, none, some}
 use Prim.Native.Nat.{ℕ, _≤_}
 use native.Mathlib.Omega.{arith}
 use lib.Dec.{ltb, eqb}
-use borrow.Author.Tests.{ltb-false, le-ltb, eqb-true, eq-eqb, not-false}
+use borrow.Author.Tests.{ltb-false, le-ltb}
 use Rattle.truth.proofs.Truth.{or-false}
+use Rattle.truth.proofs.Compare.{not-differ-iff}
 use Rattle.outcome.specs.Refusal.{whole, outside, found, orElse}
 
 pub none≢some : {i : ℕ} → _≡_ {A = Option ℕ} none (some i) → ⊥
@@ -18,10 +19,10 @@ whole-none true e = absurd (none≢some (sym e))
 
 -- two numbers that must be the same
 pub none-equal : (a b : ℕ) → whole (not (eqb a b)) ≡ none → a ≡ b
-none-equal a b e = eqb-true a b (not-false (eqb a b) (whole-none (not (eqb a b)) e))
+none-equal a b e = not-differ-iff a b .0 (whole-none (not (eqb a b)) e)
 
 pub equal-none : {a b : ℕ} → a ≡ b → whole (not (eqb a b)) ≡ none
-equal-none {a} {b} e = rw (eq-eqb a b e)
+equal-none {a} {b} e = ap whole (not-differ-iff a b .1 e)
 
 pub inside : (a b x : ℕ) → outside a b x ≡ false → (a ≤ x) × (x ≤ b)
 inside a b x e =

@@ -1,5 +1,8 @@
 -- Row 22, then row 23.
+use mathlib.Core.List.{[], _∷_}
+use denote.Ref.{now}
 use Rattle.outcome.proofs.First.{part-refuses, part-passes}
+use Rattle.detail.specs.Parts.{labelRow, coverRow}
 use Rattle.detail.proofs.last_refusal.Statement.{statement}
 use Rattle.detail.proofs.last_refusal.Tie as tie
 
@@ -14,8 +17,13 @@ cover-refusal-requires c κs = c .before .before .before .before .before .before
 
 returns-2 : tie.Need-returns-2
 returns-2 c =
-    let labels = c .before .before .before .label-refusal .ensures in
-    part-passes _ _ tt labels (c .before .if1 .left) (c .cover-refusal .ensures)
+    let labelled = c .before .before .before in
+    let a = labelled .before .before .before .before .args in
+    let d = now (a .detail) in
+    let o = now (a .overview) in
+    let p = now (a .map) in
+    part-passes (labelRow d o p (a .n) ∷ []) (coverRow d o p (a .m) ∷ []) tt (labelled .label-refusal .ensures)
+    (c .before .if1 .left) (c .cover-refusal .ensures)
 
 pub last-refusal-spec : {M : Type 1} → statement M
 last-refusal-spec =

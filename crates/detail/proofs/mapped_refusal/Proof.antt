@@ -1,7 +1,9 @@
 -- Row 21, then rows 22 and 23.
+use mathlib.Core.List.{[], _∷_}
 use denote.Ref.{now}
 use Rattle.outcome.proofs.First.{part-refuses, part-passes}
 use Rattle.chart.proofs.Reading.{shaped}
+use Rattle.detail.specs.Parts.{entryRow, lastRows}
 use Rattle.detail.proofs.Chain.{mapped}
 use Rattle.detail.proofs.mapped_refusal.Statement.{statement}
 use Rattle.detail.proofs.mapped_refusal.Tie as tie
@@ -24,8 +26,13 @@ last-refusal-requires c κs =
 
 returns-2 : tie.Need-returns-2
 returns-2 c =
-    let entries = c .before .before .before .entry-refusal .ensures in
-    part-passes _ _ tt entries (c .before .if1 .left) (c .last-refusal .ensures)
+    let entered = c .before .before .before in
+    let a = entered .before .before .before .before .args in
+    let d = now (a .detail) in
+    let o = now (a .overview) in
+    let p = now (a .map) in
+    part-passes (entryRow p (a .n) (a .k) ∷ []) (lastRows d o p (a .n) (a .m)) tt (entered .entry-refusal .ensures)
+    (c .before .if1 .left) (c .last-refusal .ensures)
 
 pub mapped-refusal-spec : {M : Type 1} → statement M
 mapped-refusal-spec =
