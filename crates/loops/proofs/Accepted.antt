@@ -1,6 +1,6 @@
 -- "A chart is accepted exactly if it passes checks 1 to 9 and 19": the table's success is the format and the meaning.
 use mathlib.Core.Path.{_≡_, refl, sym, ap, _∙_}
-use mathlib.Core.Logic.{_↔_}
+use mathlib.Core.Logic.{_↔_, Iff·symm, Iff·trans}
 use mathlib.Core.Bool.{false≢true}
 use mathlib.Core.List.{List, [], _∷_}
 use mathlib.Core.Option.{none}
@@ -132,3 +132,7 @@ module _ (s : List ℕ) where
       there e =
           let z = ap (λ (r : Outcome). r .number) e in
           record { format = format z; meaning = accepted-only z }
+
+  -- the same of the rows
+  pub unmet-iff : Unmet (acceptedTable s) ↔ AcceptedChart s
+  unmet-iff = Iff·trans (Iff·symm (success-iff (acceptedTable s) accepted-numbered)) accepted-iff

@@ -8,8 +8,7 @@ use native.Mathlib.Decide.{decLe}
 use lib.ListN.{length, set}
 use lib.Seq.{getD-set-same, getD-set-other}
 use borrow.Author.Count.{below-more}
-use Rattle.model.specs.Engine.{num}
-use Rattle.loops.specs.Parts.{Numbers}
+use Rattle.model.specs.Engine.{num, Numbers}
 
 -- one number more is cleared
 pub cleared-more :

@@ -7,12 +7,11 @@ use lib.ListN.{length, set, length-set}
 use lib.Pow.{pow-lt}
 use lib.Bits.{bitOr, or-lt, or-add-and, and-le-r}
 use Rattle.tctl.specs.Chart.{Chart}
-use Rattle.model.specs.Engine.{num}
+use Rattle.model.specs.Engine.{num, Numbers}
 use Rattle.model.proofs.Numbers.{set-elim}
 use Rattle.loops.specs.declared.Search.{Search}
 use Rattle.loops.specs.declared.Search.the-variants.{Ranks, Batch}
 use Rattle.loops.specs.Climb.{ownBit, lift, limit, Climbs, same, more, room}
-use Rattle.loops.specs.Parts.{Numbers}
 use Rattle.loops.proofs.Bits.{own-elim}
 
 -- the bits of either and the bits of both add up to a + b, and those of both to at most b

@@ -7,7 +7,7 @@ use native.Mathlib.Omega.{arith}
 use lib.ListN.{length}
 use borrow.Author.Count.{below-more}
 use Rattle.tctl.specs.Chart.{Arrow}
-use Rattle.model.specs.Engine.{num}
+use Rattle.model.specs.Engine.{num, Numbers}
 use Rattle.chart.specs.declared.ArrowWords.{ArrowWords}
 use Rattle.chart.specs.Bytes.{arrowWords, arrowOf, chartOf}
 use Rattle.chart.specs.Shape.{Passed}
@@ -15,7 +15,7 @@ use Rattle.chart.proofs.Chart.{arrow-mem, arrow-of}
 use Rattle.chart.proofs.Reading.{arrow-ends}
 use Rattle.loops.specs.declared.Search.{Search}
 use Rattle.loops.specs.Climb.{Raises, limit, Climbs, same, more, Quiet, room}
-use Rattle.loops.specs.Parts.{Numbers, liftAt, RestsAt, Raised, Climbed}
+use Rattle.loops.specs.Parts.{liftAt, RestsAt, Raised, Climbed}
 use Rattle.loops.proofs.Climb.{lift-limit, climb-trans, room-set}
 
 none-or-some : (r : ℕ) → (r ≡ 0) ⊎ (1 ≤ r)

@@ -3,18 +3,13 @@ use mathlib.Core.Path.{_≡_}
 use mathlib.Core.Bool.{false}
 use mathlib.Core.List.{List}
 use Prim.Native.Nat.{ℕ, _+_, _≤_, _<_}
-use lib.ListN.{length, set}
+use lib.ListN.{set}
 use Rattle.tctl.specs.Chart.{Chart}
 use Rattle.model.specs.Engine.{num}
 use Rattle.model.specs.ZeroLoop.{onZeroLoop}
 use Rattle.chart.specs.Bytes.{arrowWords, chartOf}
 use Rattle.loops.specs.declared.Search.{Search}
 use Rattle.loops.specs.Climb.{lift, Climbs, Quiet, room}
-
--- a number for each of n states, up to the cap
-pub record Numbers (n cap : ℕ) (vs : List ℕ) : Type 0 where
-  pub size : length vs ≡ n
-  pub capped : (s : ℕ) → num vs s ≤ cap
 
 -- what the arrow from s to e, with fewest 0, makes of the number of s
 abbrev pub liftAt : Search → ℕ → ℕ → List ℕ → ℕ

@@ -5,13 +5,13 @@ ghost use mathlib.Core.List.{[], _∷_};
 ghost use Prim.Native.Nat.{ℕ, suc, _+_, _≤_, _<_, min, max};
 ghost use lib.ListN.{length};
 ghost use Rattle.outcome.specs.Refusal.{refuse, found, lowest, first};
-ghost use Rattle.model.specs.Engine.{num};
+ghost use Rattle.model.specs.Engine.{num, Numbers};
 ghost use Rattle.model.specs.ZeroLoop.{onZeroLoop};
 ghost use Rattle.chart.specs.Bytes.{chartOf};
 ghost use Rattle.loops.specs.Refusal.{loopRow, acceptedRefusal};
 ghost use Rattle.loops.specs.Climb.{ownBit, lift, limit};
 ghost use Rattle.chart.specs.Shape.{Passed};
-ghost use Rattle.loops.specs.Parts.{Numbers, Raised, Climbed, AtRest, Batched};
+ghost use Rattle.loops.specs.Parts.{Raised, Climbed, AtRest, Batched};
 use outcome::Outcome;
 
 // What a state's number is: how many arrows with fewest 0 follow one another from it, up to a cap; or to which of the
@@ -109,7 +109,8 @@ fn climb_round(search: Search, chart: &[u8], n: usize, m: usize, numbers: &mut [
     raised
 }
 
-fn clear(numbers: &mut [u32])
+// Every number becomes 0.
+pub fn clear(numbers: &mut [u32])
     ensures { λ _. ⌜ ((s : ℕ) → num (now (numbers .exit)) s ≡ 0) ⌝ }
 {
     let mut i = 0;

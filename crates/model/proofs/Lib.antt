@@ -1,6 +1,7 @@
 pub mod Every
 pub mod Numbers
 pub mod Rounds
+pub mod RoundLaws
 pub mod Lower
 pub mod Least
 pub mod Full

@@ -3,8 +3,8 @@ use mathlib.Core.Path.{_≡_, refl, _∙_}
 use mathlib.Core.List.{List, [], _∷_}
 use Prim.Native.Nat.{ℕ, zero, suc, _≤_}
 use native.Mathlib.Omega.{arith}
-use lib.ListN.{length, set}
-use Rattle.model.specs.Engine.{num}
+use lib.ListN.{length, set, length-set}
+use Rattle.model.specs.Engine.{num, Numbers}
 
 -- what the new number has, and every old one, every number has after one is set
 pub set-elim :
@@ -16,6 +16,11 @@ set-elim P (x ∷ vs) zero v new old (suc s) = old (suc s)
 set-elim P (x ∷ vs) (suc i) v new old zero = old zero
 set-elim P (x ∷ vs) (suc i) v new old (suc s) =
     set-elim (λ s y. P (suc s) y) vs i v new (λ s. old (suc s)) s
+
+pub numbers-set :
+    {n cap : ℕ} {vs : List ℕ} → Numbers n cap vs → (i v : ℕ) → v ≤ cap → Numbers n cap (set vs i v)
+numbers-set {cap = cap} {vs} h i v l =
+    record { size = length-set vs i v ∙ h .size; capped = set-elim (λ s x. x ≤ cap) vs i v l (h .capped) }
 
 -- as many numbers, none of them more
 pub record Below (vs ws : List ℕ) : Type 0 where

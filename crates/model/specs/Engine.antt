@@ -1,8 +1,9 @@
 -- The engine: a list with a number for each state, settled by rounds over the arrows.
+use mathlib.Core.Path.{_≡_}
 use mathlib.Core.List.{List, [], _∷_}
 use mathlib.Core.Bool.{Bool, true, false, cond, _&&_}
-use Prim.Native.Nat.{ℕ, zero, suc, _+_, min}
-use lib.ListN.{getD, set}
+use Prim.Native.Nat.{ℕ, zero, suc, _+_, _≤_, min}
+use lib.ListN.{length, getD, set}
 use lib.Dec.{ltb}
 use Rattle.tctl.specs.Chart.{Arrow, Most, upTo, noEnd}
 use Rattle.tctl.specs.Tabulate.{tabulate}
@@ -10,6 +11,11 @@ use Rattle.tctl.specs.Tabulate.{tabulate}
 -- the number of a state
 abbrev pub num : List ℕ → ℕ → ℕ
 num vs s = getD vs s 0
+
+-- a number for each of n states, up to the cap
+pub record Numbers (n cap : ℕ) (vs : List ℕ) : Type 0 where
+  pub size : length vs ≡ n
+  pub capped : (s : ℕ) → num vs s ≤ cap
 
 -- a round: the change that each arrow makes, one after the other
 unfoldable pub round : (Arrow → List ℕ → List ℕ) → List Arrow → List ℕ → List ℕ

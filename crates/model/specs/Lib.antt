@@ -1,4 +1,5 @@
 pub mod Every
 pub mod Engine
+pub mod Marks
 pub mod Decide
 pub mod ZeroLoop

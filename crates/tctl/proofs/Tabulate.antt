@@ -1,10 +1,12 @@
 -- The laws of tabulate: its length, its entries and its members.
-use mathlib.Core.Path.{_≡_, refl, ap}
+use mathlib.Core.Path.{_≡_, refl, sym, ap, _∙_}
 use mathlib.Core.Logic.{_⊎_, inl, inr}
+use mathlib.Core.List.{List}
 use mathlib.Core.List.{List·Memᴰ, List·Memᴰ·head, List·Memᴰ·tail, List·Memᴰ·cases-cons, List·Memᴰ·not-nil}
 use Prim.Native.Nat.{ℕ, zero, suc, _<_}
 use native.Mathlib.Omega.{arith}
 use lib.ListN.{length, getD}
+use lib.Seq.{ext-getD}
 use Rattle.tctl.specs.Tabulate.{tabulate}
 
 module _ {ℓ} {A : Type ℓ} where
@@ -18,6 +20,13 @@ module _ {ℓ} {A : Type ℓ} where
   getD-tabulate zero f d i h = absurd (let z : ⊥ = omega arith in z)
   getD-tabulate (suc n) f d zero h = refl
   getD-tabulate (suc n) f d (suc i) h = getD-tabulate n (λ i. f (suc i)) d i (omega arith)
+
+  -- a list is tabulated if its entries are
+  pub tabulate-ext :
+      (n : ℕ) (f : ℕ → A) (d : A) (l : List A) → length l ≡ n → ((i : ℕ) → i < n → getD l i d ≡ f i) → l ≡ tabulate n f
+  tabulate-ext n f d l e h =
+      ext-getD d l (tabulate n f) (e ∙ sym (length-tabulate n f))
+      (λ i k. let m : i < n = omega (arith, e) in h i m ∙ sym (getD-tabulate n f d i m))
 
   pub mem-tabulate : (n : ℕ) (f : ℕ → A) (i : ℕ) → i < n → List·Memᴰ (f i) (tabulate n f)
   unfolding tabulate

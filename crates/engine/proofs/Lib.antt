@@ -1,0 +1,5 @@
+pub mod Weights
+pub mod Limits
+pub mod Arrows
+pub mod Tried
+pub mod Repeated

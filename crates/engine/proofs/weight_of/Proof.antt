@@ -1,0 +1,17 @@
+-- The cases of the weight.
+use native.Mathlib.Omega.{arith}
+use Rattle.engine.proofs.Weights.{tick-one}
+use Rattle.engine.proofs.weight_of.Statement.{statement}
+use Rattle.engine.proofs.weight_of.Tie as tie
+
+returns : tie.Need-returns
+returns c = (rw (c .before .if1 .taken, c .if2 .taken), omega arith)
+
+returns-2 : tie.Need-returns-2
+returns-2 c = (rw (c .before .if1 .taken) (tick-one _ (c .if2 .left)), omega arith)
+
+returns-3 : tie.Need-returns-3
+returns-3 c = (rw (c .if1 .left), c .before .pre)
+
+pub weight-of-spec : {M : Type 1} → statement M
+weight-of-spec = tie.close (tie.spec returns returns-2 returns-3)

@@ -1,0 +1,96 @@
+-- Invariant: the numbers before s are written.
+use mathlib.Core.Path.{_≡_}
+use Prim.Native.Nat.{ℕ, _≤_, _<_, _-_}
+use native.Mathlib.Omega.{arith}
+use lib.ListN.{length, length-set}
+use borrow.Author.Count.{below-none}
+use Rattle.tctl.proofs.Tabulate.{tabulate-ext}
+use Rattle.model.specs.Engine.{num}
+use Rattle.model.specs.Marks.{mark}
+use Rattle.fill.specs.Fill.{baseOf}
+use Rattle.fill.proofs.Written.{set-more}
+use Rattle.fill.proofs.fill_numbers.Statement.{statement}
+use Rattle.fill.proofs.fill_numbers.Tie as tie
+
+abbrev Inv-loop : tie.InvT-loop
+Inv-loop base n a b marks numbers₀ left right s₀ numbers s =
+    (s ≤ n) × (length numbers ≡ n) ×
+    ((v : ℕ) → v < s → num numbers v ≡ baseOf base (mark n marks a v) (mark n marks b v))
+
+abbrev μ-loop : tie.MeasureT-loop
+μ-loop base n a b marks numbers₀ left right s₀ numbers s = n - s
+
+mul-left : tie.Need-mul-left Inv-loop μ-loop
+mul-left c = omega arith
+
+mul-right : tie.Need-mul-right Inv-loop μ-loop
+mul-right c = omega arith
+
+loop-holds : tie.Need-loop-holds Inv-loop μ-loop
+loop-holds c = (omega arith, c .before .before .pre .0, below-none _)
+
+add-p : tie.Need-add-p Inv-loop μ-loop
+add-p c = omega arith
+
+shared-slice-read-p : tie.Need-shared-slice-read-p Inv-loop μ-loop
+shared-slice-read-p c = omega arith
+
+add-q : tie.Need-add-q Inv-loop μ-loop
+add-q c = omega arith
+
+shared-slice-read-q : tie.Need-shared-slice-read-q Inv-loop μ-loop
+shared-slice-read-q c = omega arith
+
+based-requires : tie.Need-based-requires Inv-loop μ-loop
+based-requires c κs = tt
+
+mul-numbers : tie.Need-mul-numbers Inv-loop μ-loop
+mul-numbers c = omega arith
+
+slice-write-numbers : tie.Need-slice-write-numbers Inv-loop μ-loop
+slice-write-numbers c = omega arith
+
+add-s : tie.Need-add-s Inv-loop μ-loop
+add-s c = omega arith
+
+loop-less : tie.Need-loop-less Inv-loop μ-loop
+loop-less c = omega arith
+
+loop-again : tie.Need-loop-again Inv-loop μ-loop
+loop-again c =
+    let loop = c .before .before .before .before .loop in (
+      omega arith,
+      simp length-set (loop .inv .1),
+      set-more (λ v. v) (loop .numbers) (loop .s) _ _ (λ v l e. omega arith) (omega arith) (c .based .ensures)
+          (loop .inv .2),
+    )
+
+same-length : tie.Need-same-length Inv-loop μ-loop
+same-length c = omega arith
+
+returns : tie.Need-returns Inv-loop μ-loop
+returns c =
+    let loop = c .before .loop in
+    tabulate-ext _ _ 0 (loop .numbers) (loop .inv .1) (λ v l. loop .inv .2 v (omega arith))
+
+pub fill-numbers-spec : {M : Type 1} → statement M
+fill-numbers-spec =
+    tie.close
+    (tie.spec
+    Inv-loop
+    μ-loop
+    mul-left
+    mul-right
+    loop-holds
+    add-p
+    shared-slice-read-p
+    add-q
+    shared-slice-read-q
+    based-requires
+    mul-numbers
+    slice-write-numbers
+    add-s
+    loop-less
+    loop-again
+    same-length
+    returns)
