@@ -9,14 +9,10 @@ use Rattle.outcome.proofs.Unmet.{unmet-append-iff}
 use Rattle.outcome.proofs.Shift.{shift-unmet-iff}
 use Rattle.chart.specs.Refusals.{chartTable}
 use Rattle.loops.specs.Refusal.{loopRow, acceptedTable}
-use Rattle.loops.specs.Accepted.{AcceptedChart}
-use Rattle.loops.proofs.Accepted.{accepted-numbered, accepted-iff}
+use Rattle.loops.proofs.Accepted.{unmet-iff}
 use Rattle.detail.specs.Refusals.{mapTable, mapCheckTable, mapRefusal}
 use Rattle.detail.proofs.Under.{map-iff}
 use Rattle.demands.specs.DetailRule.{Premises}
-
-chart-iff : (s : List ℕ) → Unmet (acceptedTable s) ↔ AcceptedChart s
-chart-iff s = Iff·trans (Iff·symm (success-iff (acceptedTable s) (accepted-numbered s))) (accepted-iff s)
 
 module _ (d o p : List ℕ) where
   numbered : Numbered (mapCheckTable d o p) × Numbered (mapTable d o p)
@@ -37,7 +33,7 @@ module _ (d o p : List ℕ) where
   pub map-check-exact : (mapRefusal d o p ≡ success) ↔ Premises d o p
   map-check-exact =
       let map = Iff·trans (Iff·symm (success-iff (mapTable d o p) (numbered .1))) (map-iff d o p) in
-      let parts = Iff·trans parts-iff (Iff·and (Iff·and (chart-iff d) (chart-iff o)) map) in
+      let parts = Iff·trans parts-iff (Iff·and (Iff·and (unmet-iff d) (unmet-iff o)) map) in
       Iff·trans (Iff·trans (success-iff (mapCheckTable d o p) (numbered .0)) parts) (
         λ w. record { detail = w .0 .0; overview = w .0 .1; map = w .1 .0; under = w .1 .1 },
         λ h. ((h .detail, h .overview), (h .map, h .under)),

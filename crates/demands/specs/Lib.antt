@@ -1,1 +1,2 @@
+pub mod SecondDemand
 pub mod DetailRule

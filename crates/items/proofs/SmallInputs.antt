@@ -3,6 +3,7 @@ use mathlib.Core.Path.{_≡_, refl}
 use mathlib.Core.Bool.{Bool, true, _&&_}
 use mathlib.Core.List.{List}
 use Prim.Native.Nat.{ℕ}
+use lib.ListN.{replicate}
 use lib.Dec.{eqb}
 use Rattle.tctl.specs.Tabulate.{tabulate}
 use Rattle.model.specs.Every.{every}
@@ -17,7 +18,8 @@ use Rattle.rule.specs.Refusals.{wrongKind, wrongA, malformed, notLower, usesIn,
 use Rattle.loops.specs.Refusal.{loopRow, acceptedTable, acceptedRefusal}
 use Rattle.detail.specs.Covered.{covered}
 use Rattle.detail.specs.Refusals.{noMap, mapTable, mapCheckTable, mapRefusal}
-use Rattle.items.specs.SmallInputs.{Refused, RefusedMap, charts, rules, maps}
+use Rattle.checker.specs.Check.{checkTable, checkRefusal}
+use Rattle.items.specs.SmallInputs.{Refused, RefusedMap, RefusedCheck, charts, rules, maps, checks}
 
 -- the outcome has the number n and the place p
 abbrev pub is : Outcome → ℕ → ℕ → Bool
@@ -44,3 +46,14 @@ unfolding
     every maps mapCheckTable mapTable noMap covered acceptedTable chartTable loopRow arrowWords chartOf tabulate leads
     leftBy lowest first
 maps-refused = refl
+
+-- check's refusal is the one that is listed, whatever is lent
+abbrev pub check-as-listed : RefusedCheck → Bool
+check-as-listed x =
+    is (checkRefusal (x .chart) (x .rule) (replicate (x .marks) 0) (replicate (x .scratch) 0)) (x .number) (x .place)
+
+pub checks-refused : every check-as-listed checks ≡ true
+unfolding
+    every checks checkTable chartTable loopRow arrowWords chartOf tabulate leads leftBy lowest first ruleTable nodeWords
+    formOf wrongKind wrongA malformed notLower usesIn uses
+checks-refused = refl

@@ -120,3 +120,32 @@ maps =
     -- 4 to 9, overview 4 to no end: not refused
     refusedMap 0 0 (shortWith (arrow 1 2 4 9)) (shortWith (arrow 1 2 4 65535)) itself ∷
     []
+
+-- a chart, a rule, how many bytes and numbers are lent, and the number and the place that are answered
+pub record RefusedCheck : Type 0 where
+  pub chart : List ℕ
+  pub rule : List ℕ
+  pub marks : ℕ
+  pub scratch : ℕ
+  pub number : ℕ
+  pub place : ℕ
+
+abbrev pub refusedCheck : ℕ → ℕ → List ℕ → List ℕ → ℕ → ℕ → RefusedCheck
+refusedCheck n p g r marks scratch =
+    record { chart = g; rule = r; marks = marks; scratch = scratch; number = n; place = p }
+
+unfoldable pub checks : List RefusedCheck
+checks =
+    -- 01's listing, with just enough room, is not refused
+    refusedCheck 0 0 short (trueUntil A 2 atMost 13) 9 12 ∷
+    -- n = k = 3, 8 bytes
+    refusedCheck 17 0 short (trueUntil A 2 atMost 13) 8 12 ∷
+    -- n = 3, 11 numbers
+    refusedCheck 18 0 short (trueUntil A 2 atMost 13) 9 11 ∷
+    -- the chart is tested before the rule, the rule before the marks, the marks before scratch, scratch before 19
+    refusedCheck 1 0 [] [] 0 0 ∷
+    refusedCheck 10 0 (shortWith (arrow 1 1 0 4)) [] 0 0 ∷
+    refusedCheck 17 0 (shortWith (arrow 1 1 0 4)) (trueUntil A 2 atMost 13) 0 0 ∷
+    refusedCheck 18 0 (shortWith (arrow 1 1 0 4)) (trueUntil A 2 atMost 13) 9 0 ∷
+    refusedCheck 19 1 (shortWith (arrow 1 1 0 4)) (trueUntil A 2 atMost 13) 9 12 ∷
+    []

@@ -7,12 +7,9 @@ use native.Mathlib.Omega.{arith}
 use native.Mathlib.Decide.{ℕ-discrete}
 use Rattle.tctl.specs.Formula.{Formula}
 use Rattle.tctl.specs.Kind.{Runs, allRuns, someRun, other, isOf}
-use Rattle.rule.specs.Bytes.{nodeCount, nodeWords}
-use Rattle.rule.specs.Refusals.{ruleRefusal}
 use Rattle.rule.specs.Formula.{operation, formulaAt}
 use Rattle.rule.specs.declared.NodeWords.{NodeWords}
-use Rattle.rule.proofs.Accepted as rule
-use Rattle.rule.proofs.Tree.{formula-at}
+use Rattle.rule.proofs.Read.{Node, step, known}
 
 -- the operation byte of the until of a kind
 abbrev pub untilOf : Runs → ℕ
@@ -57,52 +54,30 @@ module _ (k : Runs) (op : ℕ) (w : NodeWords) (at : ℕ → Formula) where
       turn (no d) (no f) (yes e) = rw e (until k)
       turn (no d) (no f) (no g) = absurd (let z : ⊥ = omega (arith, rest k n g) in z)
 
--- w is node t of an accepted rule
-pub record Node (s : List ℕ) (t : ℕ) (w : NodeWords) : Type 0 where
-  pub accepted : ruleRefusal s .number ≡ 0
-  pub low : t < nodeCount s
-  pub read : w ≡ nodeWords s t
+module _ {s : List ℕ} {t : ℕ} {w : NodeWords} (node : Node s t w) (k : Runs) where
+  pub leaf-returns : w .operation < 2 → true ≡ isOf k (formulaAt s t)
+  leaf-returns h = rw (step node) (sym (leaf k (w .operation) w (formulaAt s) h))
 
-module _ {s : List ℕ} {t : ℕ} {w : NodeWords} (node : Node s t w) where
-  step : formulaAt s t ≡ operation (w .operation) w (formulaAt s)
-  step =
-      formula-at (rule.accepted s (node .accepted)) t (node .low) ∙
-      ap (λ v. operation (v .operation) v (formulaAt s)) (sym (node .read))
+  pub not-returns :
+      {r : Bool} → w .operation ≡ 2 → r ≡ isOf (other k) (formulaAt s (w .a)) → r ≡ isOf k (formulaAt s t)
+  not-returns h e = rw (step node) (e ∙ sym (negated k (w .operation) w (formulaAt s) h))
 
-  known : w .operation ≤ 6
-  known = rw (node .read) (rule.known (rule.accepted s (node .accepted)) t (node .low))
+  pub until-returns : w .operation ≡ untilOf (other k) → false ≡ isOf k (formulaAt s t)
+  until-returns h = rw (step node) (sym (never k (w .operation) w (formulaAt s) h))
 
-  -- the operands are lower nodes
-  pub a-lower : 2 ≤ w .operation → w .a < t
-  a-lower = rw (node .read) (rule.lower-a (rule.accepted s (node .accepted)) t (node .low))
+  module _
+      (more : 2 < w .operation)
+      (not-other : w .operation ≡ untilOf (other k) → ⊥)
+      {q : Bool}
+      (left : q ≡ isOf k (formulaAt s (w .a))) where
+    by-left : {b : Bool} → q ≡ b → isOf k (formulaAt s t) ≡ (b && isOf k (formulaAt s (w .b)))
+    by-left h =
+        ap (isOf k) (step node) ∙
+        both k (w .operation) w (formulaAt s) more (known node) not-other ∙
+        ap (λ x. x && isOf k (formulaAt s (w .b))) (sym left ∙ h)
 
-  pub b-lower : 2 < w .operation → w .b < t
-  b-lower = rw (node .read) (rule.lower-b (rule.accepted s (node .accepted)) t (node .low))
+    pub right-returns : {r : Bool} → q ≡ true → r ≡ isOf k (formulaAt s (w .b)) → r ≡ isOf k (formulaAt s t)
+    right-returns h e = e ∙ sym (by-left h)
 
-  module _ (k : Runs) where
-    pub leaf-returns : w .operation < 2 → true ≡ isOf k (formulaAt s t)
-    leaf-returns h = rw step (sym (leaf k (w .operation) w (formulaAt s) h))
-
-    pub not-returns :
-        {r : Bool} → w .operation ≡ 2 → r ≡ isOf (other k) (formulaAt s (w .a)) → r ≡ isOf k (formulaAt s t)
-    not-returns h e = rw step (e ∙ sym (negated k (w .operation) w (formulaAt s) h))
-
-    pub until-returns : w .operation ≡ untilOf (other k) → false ≡ isOf k (formulaAt s t)
-    until-returns h = rw step (sym (never k (w .operation) w (formulaAt s) h))
-
-    module _
-        (more : 2 < w .operation)
-        (not-other : w .operation ≡ untilOf (other k) → ⊥)
-        {q : Bool}
-        (left : q ≡ isOf k (formulaAt s (w .a))) where
-      by-left : {b : Bool} → q ≡ b → isOf k (formulaAt s t) ≡ (b && isOf k (formulaAt s (w .b)))
-      by-left h =
-          ap (isOf k) step ∙
-          both k (w .operation) w (formulaAt s) more known not-other ∙
-          ap (λ x. x && isOf k (formulaAt s (w .b))) (sym left ∙ h)
-
-      pub right-returns : {r : Bool} → q ≡ true → r ≡ isOf k (formulaAt s (w .b)) → r ≡ isOf k (formulaAt s t)
-      right-returns h e = e ∙ sym (by-left h)
-
-      pub left-returns : q ≡ false → false ≡ isOf k (formulaAt s t)
-      left-returns h = sym (by-left h)
+    pub left-returns : q ≡ false → false ≡ isOf k (formulaAt s t)
+    left-returns h = sym (by-left h)

@@ -8,6 +8,7 @@ pub mod Full
 pub mod Raise
 pub mod Greatest
 pub mod Row
+pub mod Same
 pub mod Weigh
 pub mod Ticks
 pub mod Waiting

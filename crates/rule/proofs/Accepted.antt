@@ -57,15 +57,26 @@ module _ {s : List ℕ} (acc : Accepted s) (t : ℕ) (l : t < nodeCount s) where
   abbrev node : NodeWords
   node = nodeWords s t
 
+  abbrev form : ℕ
+  form = formOf (node .operation)
+
+  -- check 14 of its operation and kind, and of a
+  formed-parts : ((ltb 4 form || wrongKind form (node .kind)) ≡ false) × (wrongA form (node .a) ≡ false)
+  unfolding malformed
+  formed-parts =
+      let kinds = ltb 4 form || wrongKind form (node .kind) in
+      let fields = kinds || wrongA form (node .a) in
+      let a = or-false (fields || (ltb form 4 && not (eqb (node .c) 0))) _ (acc .formed t l) .0 in
+      or-false kinds _ (or-false fields _ a .0)
+
   -- its operation is one of the seven
   pub known : node .operation ≤ 6
-  unfolding malformed
-  known =
-      let f = formOf (node .operation) in
-      let a = or-false (ltb 4 f || wrongKind f (node .kind) || wrongA f (node .a) || (ltb f 4 && not (eqb (node .c) 0))) _ (acc .formed t l) .0 in
-      let b = or-false (ltb 4 f || wrongKind f (node .kind) || wrongA f (node .a)) _ a .0 in
-      let d = or-false (ltb 4 f || wrongKind f (node .kind)) _ b .0 in
-      form-of (node .operation) .0 (ltb-false 4 f (or-false (ltb 4 f) _ d .0))
+  known = form-of (node .operation) .0 (ltb-false 4 form (or-false (ltb 4 form) _ (formed-parts .0) .0))
+
+  -- its label is one of the sixteen
+  pub label-low : node .operation ≡ 1 → node .a < 16
+  unfolding formOf wrongA
+  label-low e = omega (arith, ltb-false 15 (node .a) (rw e at (formed-parts .1)))
 
   operand-lower : (least x : ℕ) → (leb least (formOf (node .operation)) && leb t x) ≡ false → least ≤ formOf (node .operation) → x < t
   operand-lower least x e h = leb-false t x (ap (λ b. b && leb t x) (sym (le-leb _ _ h)) ∙ e)

@@ -3,3 +3,4 @@ pub mod Malformed
 pub mod Passed
 pub mod Accepted
 pub mod Tree
+pub mod Read

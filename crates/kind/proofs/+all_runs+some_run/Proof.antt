@@ -10,10 +10,8 @@ use Rattle.rule.specs.Bytes.{nodeCount}
 use Rattle.rule.specs.Refusals.{ruleRefusal}
 use Rattle.rule.proofs.Accepted as rule
 use Rattle.rule.proofs.node_at.Reads as node-at-reads
+use Rattle.rule.proofs.Read.{Node, a-lower, b-lower}
 use Rattle.kind.proofs.Steps.{
-  Node,
-  a-lower,
-  b-lower,
   leaf-returns,
   not-returns,
   until-returns,

@@ -1,0 +1,5 @@
+pub mod Chain
+pub mod Ready
+pub mod Marks
+pub mod Scratch
+pub mod Answers

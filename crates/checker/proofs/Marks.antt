@@ -1,0 +1,84 @@
+-- The marks that check writes: rows of nodes as one list, and what their bytes tell.
+use mathlib.Core.Path.{_≡_, refl, sym, ap, subst, _∙_}
+use mathlib.Core.Logic.{_↔_}
+use mathlib.Core.Bool.{Bool, true, false, false≢true}
+use mathlib.Core.List.{List, _++_}
+use Prim.Native.Nat.{ℕ, _+_, _*_, _-_, _≤_, _<_, _/_, _%_}
+use native.Mathlib.Nat.{div-add-mod', mod-lt, div-lt-iff-lt-mul}
+use native.Mathlib.Omega.{arith}
+use lib.ListN.{length, getD, drop, length-append, length-drop, List·getD-append}
+use lib.Dec.{leb}
+use lib.Seq.{ext-getD, getD-append-add, getD-drop}
+use borrow.Author.Tests.{leb-true, leb-false}
+use Rattle.tctl.proofs.Tabulate.{length-tabulate, getD-tabulate}
+use Rattle.model.specs.Decide.{holds}
+use Rattle.model.specs.Marks.{bit}
+use Rattle.chart.specs.Bytes.{stateCount, chartOf}
+use Rattle.rule.specs.Bytes.{nodeCount}
+use Rattle.rule.specs.Formula.{formulaAt}
+use Rattle.nodes.specs.Parts.{Right}
+use Rattle.checker.specs.Check.{marksOf, Tells}
+
+module _ (chart rule : List ℕ) where
+  abbrev n : ℕ
+  n = stateCount chart
+
+  abbrev size : ℕ
+  size = nodeCount rule * n
+
+  marks-length : length (marksOf chart rule) ≡ size
+  unfolding marksOf
+  marks-length = length-tabulate size _
+
+  -- byte j is of node j / n and state j % n
+  marks-at :
+      0 < n → (new : List ℕ) → ((t : ℕ) → t < nodeCount rule → Right chart n rule t new) →
+      (j : ℕ) → j < size → getD new j 0 ≡ getD (marksOf chart rule) j 0
+  unfolding marksOf
+  marks-at p new rows j h =
+      let place = div-add-mod' j n in
+      let row = div-lt-iff-lt-mul p .1 h in
+      subst (λ i. getD new i 0 ≡ bit (holds (chartOf chart) (formulaAt rule (j / n)) (j % n))) place
+      (rows (j / n) row (j % n) (mod-lt j p)) ∙
+      sym (getD-tabulate size _ 0 j h)
+
+  -- Right rows with the rest kept are the marks and the rest: byte by byte.
+  pub marks-written :
+      0 < n → (old new : List ℕ) → size ≤ length old → length new ≡ length old →
+      ((t : ℕ) → t < nodeCount rule → Right chart n rule t new) →
+      ((j : ℕ) → size ≤ j → getD new j 0 ≡ getD old j 0) →
+      new ≡ marksOf chart rule ++ drop size old
+  marks-written p old new room same rows rest =
+      ext-getD 0 new (marks ++ drop size old) whole (λ j h. turn j (leb size j) refl)
+    where
+      marks : List ℕ
+      marks = marksOf chart rule
+
+      whole : length new ≡ length (marks ++ drop size old)
+      whole = omega (arith, same, room, length-append marks (drop size old), marks-length, length-drop size old)
+
+      turn : (j : ℕ) (b : Bool) → leb size j ≡ b → getD new j 0 ≡ getD (marks ++ drop size old) j 0
+      turn j false e =
+          let l = leb-false size j e in
+          marks-at p new rows j l ∙ sym (List·getD-append marks (drop size old) 0 j (omega (arith, marks-length)))
+      turn j true e =
+          let l = leb-true size j e in
+          let i : length marks + (j - size) ≡ j = omega (arith, marks-length) in
+          rest j l ∙
+          ap (λ x. getD old x 0) (omega arith) ∙
+          sym (getD-drop size old (j - size) 0) ∙
+          sym (getD-append-add marks (drop size old) (j - size) 0) ∙
+          ap (λ x. getD (marks ++ drop size old) x 0) i
+
+-- a mark tells what a decision decides
+pub bit-tells : (b : Bool) (claim : Type 0) → ((b ≡ true) ↔ claim) → Tells (bit b) claim
+bit-tells true claim h =
+    record {
+      yes = (λ e. h .0 refl, λ c. refl);
+      no = (λ e. absurd (let z : ⊥ = omega arith in z), λ f. absurd (f (h .0 refl)));
+    }
+bit-tells false claim h =
+    record {
+      yes = (λ e. absurd (let z : ⊥ = omega arith in z), λ c. absurd (false≢true (h .1 c)));
+      no = (λ e c. false≢true (h .1 c), λ f. refl);
+    }

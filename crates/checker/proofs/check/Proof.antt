@@ -1,0 +1,147 @@
+-- Rows 1 to 18, then row 19 and the nodes on the first n numbers of scratch, of which 4n are cleared.
+use mathlib.Core.Path.{_≡_, sym, _∙_}
+use mathlib.Core.List.{List}
+use Prim.Native.Nat.{ℕ, _*_, _≤_}
+use lib.ListN.{length}
+use native.Mathlib.Omega.{arith}
+use denote.Ref.{now}
+use Rattle.loops.proofs.Chain.{prefix-size}
+use Rattle.chart.proofs.Accepted.{checked}
+use Rattle.rule.proofs.Accepted.{accepted}
+use Rattle.checker.proofs.Chain.{Passes, passes}
+use Rattle.checker.proofs.Scratch.{used-size, used-front, cleared-front}
+use Rattle.checker.proofs.Answers.{refused-checked, judged-checked}
+use borrow.Author.Needs.{needs}
+use Rattle.checker.proofs.check.Statement.{statement}
+use Rattle.checker.proofs.check.Tie as tie
+
+input-refusal-requires : tie.Need-input-refusal-requires
+input-refusal-requires c κs = search needs
+
+same-length : tie.Need-same-length
+same-length c = search needs
+
+same-length-2 : tie.Need-same-length-2
+same-length-2 c = search needs
+
+returns : tie.Need-returns
+returns c =
+    let a = c .before .before .before .before .before .before .before .before .before .args in
+    refused-checked (now (a .chart)) (now (a .rule)) (now (a .marks)) (now (a .scratch))
+    (c .before .before .input-refusal .ensures) (c .if1 .taken)
+
+-- rows 1 to 18 were passed
+passed :
+    (c : tie.Else1) →
+    let a = c .before .before .before .before .before .before .before .before .before .args in
+    Passes (now (a .chart)) (now (a .rule)) (now (a .marks)) (now (a .scratch))
+passed c =
+    let a = c .before .before .before .before .before .before .before .before .before .args in
+    passes (now (a .chart)) (now (a .rule)) (now (a .marks)) (now (a .scratch))
+    (c .before .before .input-refusal .ensures) (c .if1 .left)
+
+state-count-requires : tie.Need-state-count-requires
+state-count-requires c κs = omega (arith, checked _ (passed c .of-chart) .shape .whole)
+
+arrow-count-requires : tie.Need-arrow-count-requires
+arrow-count-requires c κs = omega (arith, checked _ (passed (c .before) .of-chart) .shape .whole)
+
+node-count-requires : tie.Need-node-count-requires
+node-count-requires c κs = omega (arith, accepted _ (passed (c .before .before) .of-rule) .shape .whole)
+
+abbrev lent : tie.After-state-count → List ℕ
+lent c = now (c .before .before .before .before .before .before .before .before .before .before .args .scratch)
+
+-- 4n numbers lie in the scratch lent
+inside : (c : tie.After-state-count) → 4 * c .state-count .result ≤ length (lent c)
+inside c = omega (arith, passed (c .before) .room, c .state-count .ensures .0)
+
+slice-relend-prefix-judged : tie.Need-slice-relend-prefix-judged
+slice-relend-prefix-judged c = omega (arith, inside (c .before .before .before))
+
+slice-aggregate-judged : tie.Need-slice-aggregate-judged
+slice-aggregate-judged c =
+    let counted = c .before .before .before .before in
+    sym (prefix-size (counted .state-count .result) _ (omega (arith, inside counted)))
+
+judged-requires : tie.Need-judged-requires
+judged-requires c κs =
+    let nodes = c .before .before in
+    let counted = nodes .before .before in
+    let p = passed (counted .before) in
+    record {
+      passed =
+          record {
+            states = counted .state-count .ensures .0;
+            arrows = nodes .before .arrow-count .ensures .0;
+            unrefused = p .of-chart;
+          };
+      nodes = nodes .node-count .ensures .0;
+      unrefused = p .of-rule;
+      table = rw (counted .state-count .ensures .0, nodes .node-count .ensures .0) (p .table);
+      size = prefix-size (counted .state-count .result) _ (omega (arith, inside counted));
+    }
+
+-- they are n still
+used : (c : tie.After-judged) → length (c .judged .last .1 .1 .1 .1 .1 .1 .0) ≡ c .before .before .before .before .before .state-count .result
+used c =
+    let counted = c .before .before .before .before .before in
+    c .judged .kept .1 .1 .1 .1 .1 .1 .0 ∙ prefix-size (counted .state-count .result) _ (omega (arith, inside counted))
+
+mul-zeros : tie.Need-mul-zeros
+mul-zeros c = search needs
+
+slice-relend-prefix-clear : tie.Need-slice-relend-prefix-clear
+slice-relend-prefix-clear c =
+    let judged = c .before .before .before .before in
+    let counted = judged .before .before .before .before .before in
+    used-size _ (lent counted) (judged .judged .last .1 .1 .1 .1 .1 .1 .0) (used judged) (inside counted)
+
+slice-aggregate-clear : tie.Need-slice-aggregate-clear
+slice-aggregate-clear c =
+    let judged = c .before .before .before .before .before in
+    let counted = judged .before .before .before .before .before in
+    used-front _ (lent counted) (judged .judged .last .1 .1 .1 .1 .1 .1 .0) (used judged) (inside counted)
+
+clear-requires : tie.Need-clear-requires
+clear-requires c κs = search needs
+
+same-length-3 : tie.Need-same-length-3
+same-length-3 c = search needs
+
+same-length-4 : tie.Need-same-length-4
+same-length-4 c = search needs
+
+returns-2 : tie.Need-returns-2
+returns-2 c =
+    let cleared = c .before .before in
+    let judged = cleared .before .before .before .before .before .before in
+    let counted = judged .before .before .before .before .before in
+    let input = counted .before .before .before in
+    let a = input .before .before .before .before .before .before .before .args in
+    judged-checked (now (a .chart)) (now (a .rule)) (now (a .marks)) (now (a .scratch)) (input .input-refusal .ensures)
+    (counted .before .if1 .left) (counted .state-count .ensures .0) (judged .judged .ensures)
+    (cleared-front _ (lent counted) (judged .judged .last .1 .1 .1 .1 .1 .1 .0) (used judged) (inside counted) (cleared .clear .last .0) (cleared .clear .kept .0)
+    (cleared .clear .ensures))
+
+pub check-spec : {M : Type 1} → statement M
+check-spec =
+    tie.close
+    (tie.spec
+    input-refusal-requires
+    same-length
+    same-length-2
+    returns
+    state-count-requires
+    arrow-count-requires
+    node-count-requires
+    slice-relend-prefix-judged
+    slice-aggregate-judged
+    judged-requires
+    mul-zeros
+    slice-relend-prefix-clear
+    slice-aggregate-clear
+    clear-requires
+    same-length-3
+    same-length-4
+    returns-2)

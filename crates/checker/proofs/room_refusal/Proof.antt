@@ -1,0 +1,52 @@
+-- Each return is the row whose test led there, the tests before it having failed.
+use borrow.Author.Tests.{lt-ltb, le-ltb}
+use native.Mathlib.Nat.{mul-le-mul}
+use native.Mathlib.Omega.{arith}
+use Rattle.outcome.specs.Refusal.{first}
+use borrow.Author.Needs.{needs}
+use Rattle.checker.proofs.room_refusal.Statement.{statement}
+use Rattle.checker.proofs.room_refusal.Tie as tie
+
+mul-if1 : tie.Need-mul-if1
+mul-if1 c =
+    let p = c .before .before .pre in
+    omega (arith, mul-le-mul (p .1) (p .0))
+
+refused-requires : tie.Need-refused-requires
+refused-requires c κs = search needs
+
+returns : tie.Need-returns
+unfolding first
+returns c = simp (lt-ltb _ _ (c .before .if1 .taken)) (c .refused .ensures)
+
+mul-if2 : tie.Need-mul-if2
+mul-if2 c = search needs
+
+refused-requires-2 : tie.Need-refused-requires-2
+refused-requires-2 c κs = search needs
+
+returns-2 : tie.Need-returns-2
+unfolding first
+returns-2 c =
+    simp (le-ltb _ _ (c .before .before .if1 .left), lt-ltb _ _ (c .before .if2 .taken)) (c .refused2 .ensures)
+
+accepted-requires : tie.Need-accepted-requires
+accepted-requires c κs = search needs
+
+returns-3 : tie.Need-returns-3
+unfolding first
+returns-3 c =
+    simp (le-ltb _ _ (c .before .before .if1 .left), le-ltb _ _ (c .before .if2 .left)) (c .accepted .ensures)
+
+pub room-refusal-spec : {M : Type 1} → statement M
+room-refusal-spec =
+    tie.close
+    (tie.spec
+    mul-if1
+    refused-requires
+    returns
+    mul-if2
+    refused-requires-2
+    returns-2
+    accepted-requires
+    returns-3)

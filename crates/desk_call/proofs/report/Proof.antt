@@ -1,0 +1,89 @@
+-- What is printed follows from the answer of the check.
+use native.Mathlib.Omega.{arith}
+use borrow.Author.Needs.{needs}
+use Rattle.listing.proofs.Append.{shown-text}
+use Rattle.desk_call.proofs.Verdict.{refusal-printed, listing-printed, chart-shaped, rule-shaped, few-marks}
+use Rattle.desk_call.proofs.report.Statement.{statement}
+use Rattle.desk_call.proofs.report.Tie as tie
+
+slice-aggregate-check : tie.Need-slice-aggregate-check
+slice-aggregate-check c = search needs
+
+slice-aggregate-check-2 : tie.Need-slice-aggregate-check-2
+slice-aggregate-check-2 c = search needs
+
+check-requires : tie.Need-check-requires
+check-requires c κs = search needs
+
+refuse-requires : tie.Need-refuse-requires
+refuse-requires c κs = search needs
+
+same-length : tie.Need-same-length
+same-length c = search needs
+
+returns : tie.Need-returns
+returns c =
+    let refused = c .before .before in
+    let check = refused .before .before .before .before .before .before in
+    let e = refusal-printed _ _ (check .check .ensures) (refused .before .before .if1 .taken) in
+    shown-text e (refused .refuse .ensures)
+
+state-count-requires : tie.Need-state-count-requires
+state-count-requires c κs =
+    let check = c .before .before .before .before in
+    omega (arith, chart-shaped _ _ (check .check .ensures) (c .if1 .left) .whole)
+
+node-count-requires : tie.Need-node-count-requires
+node-count-requires c κs =
+    let check = c .before .before .before .before .before in
+    omega (arith, rule-shaped _ _ (check .check .ensures) (c .before .if1 .left) .whole)
+
+slice-aggregate-list : tie.Need-slice-aggregate-list
+slice-aggregate-list c = search needs
+
+list-requires : tie.Need-list-requires
+list-requires c κs =
+    let nodes = c .before .before in
+    let states = nodes .before in
+    let passed = states .before in
+    let check = passed .before .before .before .before in
+    let told = check .check .ensures in
+    let z = passed .if1 .left in
+    let n = states .state-count .ensures .0 in
+    let k = nodes .node-count .ensures .0 in (
+      omega (arith, chart-shaped _ _ told z .few-states, n),
+      omega (arith, rule-shaped _ _ told z .few-nodes, k),
+      rw (n, k) (omega (arith, few-marks _ _ told z, check .check .kept .1 .1 .0)),
+      omega arith,
+    )
+
+same-length-2 : tie.Need-same-length-2
+same-length-2 c = search needs
+
+returns-2 : tie.Need-returns-2
+returns-2 c =
+    let listed = c .before .before in
+    let nodes = listed .before .before .before in
+    let states = nodes .before in
+    let passed = states .before in
+    let check = passed .before .before .before .before in
+    let e = states .state-count .ensures .0 in
+    let f = nodes .node-count .ensures .0 in
+    shown-text (listing-printed _ _ (check .check .ensures) (passed .if1 .left) e f) (listed .list .ensures)
+
+pub report-spec : {M : Type 1} → statement M
+report-spec =
+    tie.close
+    (tie.spec
+    slice-aggregate-check
+    slice-aggregate-check-2
+    check-requires
+    refuse-requires
+    same-length
+    returns
+    state-count-requires
+    node-count-requires
+    slice-aggregate-list
+    list-requires
+    same-length-2
+    returns-2)

@@ -1,0 +1,34 @@
+-- What the desk program prints of a chart's and a rule's bytes. The quoted sentences are of 01, on the desk program.
+use mathlib.Core.Bool.{cond}
+use mathlib.Core.List.{List}
+use Prim.Native.Nat.{ℕ}
+use lib.ListN.{replicate}
+use lib.Dec.{eqb}
+use Rattle.outcome.specs.declared.Outcome.{Outcome}
+use Rattle.chart.specs.Bytes.{stateCount}
+use Rattle.rule.specs.Bytes.{nodeCount}
+use Rattle.checker.specs.Check.{checkRefusal, marksOf}
+use Rattle.listing.specs.Text.{listing, refusedLine}
+
+-- the marks table that is lent: 64 × 256 bytes, enough for any chart and rule
+abbrev pub lentMarks : List ℕ
+lentMarks = replicate 16384 0
+
+-- the scratch that is lent: 4 × 256 numbers
+abbrev pub lentScratch : List ℕ
+lentScratch = replicate 1024 0
+
+-- the answer of the check
+abbrev pub verdict : List ℕ → List ℕ → Outcome
+verdict chart rule = checkRefusal chart rule lentMarks lentScratch
+
+-- the text of an answer: the listing of the marks, or the line of the refusal
+abbrev pub textOf : List ℕ → List ℕ → Outcome → List ℕ
+textOf chart rule answer =
+    cond (eqb (answer .number) 0)
+    (listing (stateCount chart) (nodeCount rule) (marksOf chart rule))
+    (refusedLine (answer .number) (answer .place))
+
+-- what is printed
+unfoldable pub printed : List ℕ → List ℕ → List ℕ
+printed chart rule = textOf chart rule (verdict chart rule)

@@ -1,0 +1,4 @@
+// The desk program where neither file is there.
+fn main() {
+    desk_call::run();
+}

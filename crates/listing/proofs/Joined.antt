@@ -1,0 +1,78 @@
+-- Texts one after another, as a loop appends them.
+use mathlib.Core.Path.{_≡_, refl, sym, ap, subst, _∙_}
+use mathlib.Core.List.{List, [], _∷_, _++_}
+use Prim.Native.Nat.{ℕ, zero, suc, _+_, _*_, _-_, _≤_, _<_}
+use native.Mathlib.Omega.{arith}
+use native.Mathlib.Nat.{suc-mul, mul-le-mul-right}
+use lib.ListN.{length, getD, take, length-append}
+use lib.Seq.{take-suc, take-length}
+use Rattle.listing.specs.Text.{joined}
+use Rattle.listing.specs.Piece.{Room, Appended}
+use Rattle.listing.proofs.Append.{appended-none, appended-both, room-second}
+
+pub joined-none : (f : ℕ → List ℕ) {at : ℕ} {old : List ℕ} → Appended at (joined 0 f) at old old
+unfolding joined
+joined-none f = appended-none
+
+module _ (f : ℕ → List ℕ) where
+  -- one text more
+  pub joined-more :
+      (i : ℕ) {at mid r : ℕ} {old between new : List ℕ} →
+      Appended at (joined i f) mid old between → Appended mid (f i) r between new →
+      Appended at (joined (i + 1) f) r old new
+  unfolding joined
+  joined-more i {at} {r = r} {old = old} {new = new} p q =
+      let e : suc i ≡ i + 1 = omega arith in
+      subst (λ (k : ℕ). Appended at (joined k f) r old new) e (appended-both p q)
+
+  -- the texts before i are no longer than those before i + more
+  grows : (i more : ℕ) → length (joined i f) ≤ length (joined (i + more) f)
+  unfolding joined
+  grows i zero = let e : i + 0 ≡ i = omega arith in rw e (omega arith)
+  grows i (suc more) =
+      let e : i + suc more ≡ suc (i + more) = omega arith in
+      rw e (omega (arith, grows i more, length-append (joined (i + more) f) (f (i + more))))
+
+  -- room for k texts is room for text i once those before it are there
+  pub joined-room :
+      (i k : ℕ) {at mid : ℕ} {old between : List ℕ} →
+      Appended at (joined i f) mid old between → i < k → Room at (joined k f) old → Room mid (f i) between
+  unfolding joined
+  joined-room i k {at} {old = old} p l h =
+      let e : suc i + (k - suc i) ≡ k = omega arith in
+      let g = subst (λ (j : ℕ). length (joined (suc i) f) ≤ length (joined j f)) e (grows (suc i) (k - suc i)) in
+      room-second (f i) p (record { fits = omega (arith, g, h .fits) })
+
+-- texts of at most b bytes each
+pub joined-size :
+    (k b : ℕ) (f : ℕ → List ℕ) → ((i : ℕ) → i < k → length (f i) ≤ b) → length (joined k f) ≤ k * b
+unfolding joined
+joined-size zero b f h = omega arith
+joined-size (suc k) b f h =
+    let ih = joined-size k b f (λ i l. h i (omega arith)) in
+    omega (arith, ih, h k (omega arith), length-append (joined k f) (f k))
+
+-- byte j of a list, as a text
+abbrev pub byteAt : List ℕ → ℕ → List ℕ
+byteAt l j = getD l j 0 ∷ []
+
+-- the bytes of a list, one after another, are the list
+joined-take : (l : List ℕ) (i : ℕ) → i ≤ length l → joined i (byteAt l) ≡ take i l
+unfolding joined
+joined-take l zero h = refl
+joined-take l (suc i) h =
+    ap (λ (s : List ℕ). s ++ getD l i 0 ∷ []) (joined-take l i (omega arith)) ∙ sym (take-suc l i 0 (omega arith))
+
+pub joined-bytes : (l : List ℕ) → joined (length l) (byteAt l) ≡ l
+joined-bytes l = joined-take l (length l) (omega arith) ∙ take-length l
+
+-- the same texts
+pub joined-same :
+    (k : ℕ) (f g : ℕ → List ℕ) → ((i : ℕ) → i < k → f i ≡ g i) → joined k f ≡ joined k g
+unfolding joined
+joined-same zero f g h = refl
+joined-same (suc k) f g h = let e = joined-same k f g (λ i l. h i (omega arith)) in let d = h k (omega arith) in cc
+
+-- row t of k rows of n marks lies inside
+pub row-inside : (t k n : ℕ) {size : ℕ} → t < k → k * n ≤ size → t * n + n ≤ size
+row-inside t k n l h = omega (arith, h, mul-le-mul-right n (let e : suc t ≤ k = omega arith in e), suc-mul t n)

@@ -1,0 +1,75 @@
+-- How much room the texts take at most.
+use mathlib.Core.List.{List, [], _∷_, _++_}
+use Prim.Native.Nat.{ℕ, suc, _+_, _*_, _^_, _≤_, _<_}
+use native.Mathlib.Omega.{arith}
+use lib.ListN.{length, getD, length-append}
+use Rattle.listing.specs.Text.{
+  statesWord,
+  nodesWord,
+  refusedWord,
+  atWord,
+  space,
+  newline,
+  decimal,
+  joined,
+  mark,
+  markLine,
+  nodeLine,
+  numbersLine,
+  listing,
+  refusedLine,
+}
+use Rattle.listing.specs.Piece.{Room}
+use Rattle.listing.proofs.Joined.{joined-size}
+use Rattle.listing.proofs.Decimal.{decimal-size}
+
+mark-size : (n start : ℕ) (marks : List ℕ) → length (markLine n marks start) ≤ n
+unfolding markLine
+mark-size n start marks =
+    omega (arith, joined-size n 1 (λ s. mark (getD marks (start + s) 0) ∷ []) (λ s l. omega arith))
+
+node-size : (n t : ℕ) (marks : List ℕ) → n ≤ 256 → t < 100 → length (nodeLine n marks t) ≤ 260
+unfolding nodeLine
+node-size n t marks h l =
+    let line = markLine n marks (t * n) in
+    omega (
+      arith,
+      decimal-size 1 t l,
+      mark-size n (t * n) marks,
+      length-append (decimal t) space,
+      length-append (decimal t ++ space) line,
+      length-append (decimal t ++ space ++ line) newline,
+    )
+
+numbers-size :
+    (first second : List ℕ) (x y a b : ℕ) → x < 10 ^ suc a → y < 10 ^ suc b →
+    length (numbersLine first x second y) ≤ length first + suc a + length second + suc b + 1
+unfolding numbersLine
+numbers-size first second x y a b h i =
+    omega (
+      arith,
+      decimal-size a x h,
+      decimal-size b y i,
+      length-append first (decimal x),
+      length-append (first ++ decimal x) second,
+      length-append (first ++ decimal x ++ second) (decimal y),
+      length-append (first ++ decimal x ++ second ++ decimal y) newline,
+    )
+
+-- a first line of at most 20 bytes, and k lines of at most 260
+pub listing-room :
+    (n k : ℕ) (marks out : List ℕ) → n ≤ 256 → k ≤ 64 → 20 + 64 * 260 ≤ length out → Room 0 (listing n k marks) out
+unfolding listing
+listing-room n k marks out h i room =
+    let line = numbersLine statesWord n nodesWord k in
+    let lines = joined-size k 260 (nodeLine n marks) (λ t l. node-size n t marks h (omega arith)) in
+    let first = numbers-size statesWord nodesWord n k 2 1 (omega arith) (omega arith) in
+    record { fits = omega (arith, room, first, lines, i, length-append line (joined k (nodeLine n marks))) }
+
+-- two numbers of at most ten digits
+pub refused-room :
+    (number place : ℕ) (out : List ℕ) → number < 2 ^ 32 → place < 2 ^ 32 → 33 ≤ length out →
+    Room 0 (refusedLine number place) out
+unfolding refusedLine
+refused-room number place out h i room =
+    record { fits = omega (arith, room, numbers-size refusedWord atWord number place 9 9 (omega arith) (omega arith)) }

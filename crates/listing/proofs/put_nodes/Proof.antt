@@ -1,0 +1,68 @@
+-- Invariant: the lines of the first t nodes are there.
+use mathlib.Core.Path.{_≡_, ap}
+use Prim.Native.Nat.{ℕ, _≤_, _-_}
+use native.Mathlib.Omega.{arith}
+use denote.Ref.{now}
+use Rattle.listing.specs.Text.{joined, nodeLine}
+use Rattle.listing.specs.Piece.{Appended}
+use Rattle.listing.proofs.Append.{appended-size, appended-text}
+use Rattle.listing.proofs.Joined.{joined-none, joined-more, joined-room, row-inside}
+use Rattle.listing.proofs.put_nodes.Statement.{statement}
+use Rattle.listing.proofs.put_nodes.Tie as tie
+
+abbrev Inv-loop : tie.InvT-loop
+Inv-loop n k marks at out₀ end₀ t₀ out end t = (t ≤ k) × Appended at (joined t (nodeLine n marks)) end out₀ out
+
+abbrev μ-loop : tie.MeasureT-loop
+μ-loop n k marks at out₀ end₀ t₀ out end t = k - t
+
+loop-holds : tie.Need-loop-holds Inv-loop μ-loop
+loop-holds c = (omega arith, joined-none (nodeLine (c .before .before .args .n) (now (c .before .before .args .marks))))
+
+put-node-requires : tie.Need-put-node-requires Inv-loop μ-loop
+put-node-requires c κs =
+    let at-loop = c .before .before in
+    let start = at-loop .before .before .before in
+    let a = start .args in
+    let loop = at-loop .loop in
+    let below = c .before .loop-test .taken in (
+      row-inside (loop .t) (a .k) (a .n) below (start .pre .0),
+      joined-room (nodeLine (a .n) (now (a .marks))) (loop .t) (a .k) (loop .inv .1) below (start .pre .1),
+    )
+
+add-t : tie.Need-add-t Inv-loop μ-loop
+add-t c = omega arith
+
+loop-less : tie.Need-loop-less Inv-loop μ-loop
+loop-less c = omega arith
+
+loop-again : tie.Need-loop-again Inv-loop μ-loop
+loop-again c =
+    let put = c .before .before in
+    let at-loop = put .before .before .before in
+    let a = at-loop .before .before .before .args in
+    let f = nodeLine (a .n) (now (a .marks)) in
+    (omega arith, joined-more f (at-loop .loop .t) (at-loop .loop .inv .1) (put .put-node .ensures))
+
+same-length : tie.Need-same-length Inv-loop μ-loop
+same-length c = appended-size (c .before .loop .inv .1)
+
+returns : tie.Need-returns Inv-loop μ-loop
+returns c =
+    let a = c .before .before .before .before .args in
+    let e : c .before .loop .t ≡ a .k = omega arith in
+    appended-text (ap (λ (i : ℕ). joined i (nodeLine (a .n) (now (a .marks)))) e) (c .before .loop .inv .1)
+
+pub put-nodes-spec : {M : Type 1} → statement M
+put-nodes-spec =
+    tie.close
+    (tie.spec
+    Inv-loop
+    μ-loop
+    loop-holds
+    put-node-requires
+    add-t
+    loop-less
+    loop-again
+    same-length
+    returns)

@@ -1,0 +1,70 @@
+-- Invariant: the first i bytes of the word are there.
+use mathlib.Core.Path.{_≡_, sym, ap, _∙_}
+use Prim.Native.Nat.{ℕ, _≤_, _-_}
+use native.Mathlib.Omega.{arith}
+use lib.ListN.{length}
+use denote.Ref.{now}
+use Rattle.listing.specs.Text.{joined}
+use Rattle.listing.specs.Piece.{Appended}
+use Rattle.listing.proofs.Append.{appended-size, appended-text, room-text}
+use Rattle.listing.proofs.Joined.{byteAt, joined-none, joined-more, joined-room, joined-bytes}
+use Rattle.listing.proofs.put_word.Statement.{statement}
+use Rattle.listing.proofs.put_word.Tie as tie
+
+abbrev Inv-loop : tie.InvT-loop
+Inv-loop word at out₀ end₀ i₀ out end i = (i ≤ length word) × Appended at (joined i (byteAt word)) end out₀ out
+
+abbrev μ-loop : tie.MeasureT-loop
+μ-loop word at out₀ end₀ i₀ out end i = length word - i
+
+loop-holds : tie.Need-loop-holds Inv-loop μ-loop
+loop-holds c = (omega arith, joined-none (byteAt (now (c .before .before .args .word))))
+
+shared-slice-read-put : tie.Need-shared-slice-read-put Inv-loop μ-loop
+shared-slice-read-put c = omega arith
+
+put-requires : tie.Need-put-requires Inv-loop μ-loop
+put-requires c κs =
+    let at-loop = c .before .before .before in
+    let start = at-loop .before .before .before in
+    let word = now (start .args .word) in
+    let loop = at-loop .loop in
+    joined-room (byteAt word) (loop .i) (length word) (loop .inv .1) (c .before .before .loop-test .taken)
+    (room-text (sym (joined-bytes word)) (start .pre))
+
+add-i : tie.Need-add-i Inv-loop μ-loop
+add-i c = omega arith
+
+loop-less : tie.Need-loop-less Inv-loop μ-loop
+loop-less c = omega arith
+
+loop-again : tie.Need-loop-again Inv-loop μ-loop
+loop-again c =
+    let put = c .before .before in
+    let at-loop = put .before .before .before .before in
+    let word = now (at-loop .before .before .before .args .word) in
+    (omega arith, joined-more (byteAt word) (at-loop .loop .i) (at-loop .loop .inv .1) (put .put .ensures))
+
+same-length : tie.Need-same-length Inv-loop μ-loop
+same-length c = appended-size (c .before .loop .inv .1)
+
+returns : tie.Need-returns Inv-loop μ-loop
+returns c =
+    let word = now (c .before .before .before .before .args .word) in
+    let e : c .before .loop .i ≡ length word = omega arith in
+    appended-text (ap (λ (k : ℕ). joined k (byteAt word)) e ∙ joined-bytes word) (c .before .loop .inv .1)
+
+pub put-word-spec : {M : Type 1} → statement M
+put-word-spec =
+    tie.close
+    (tie.spec
+    Inv-loop
+    μ-loop
+    loop-holds
+    shared-slice-read-put
+    put-requires
+    add-i
+    loop-less
+    loop-again
+    same-length
+    returns)

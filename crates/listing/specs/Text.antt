@@ -1,0 +1,72 @@
+-- The text that the desk program prints, as a list of bytes. The quoted sentences are of 01, on the desk program.
+use mathlib.Core.Path.{_≡_}
+use mathlib.Core.Bool.{cond}
+use mathlib.Core.List.{List, [], _∷_, _++_}
+use Prim.Native.Nat.{ℕ, zero, suc, _+_, _*_, _/_, _%_}
+use lib.ListN.{length, getD, drop}
+use lib.Dec.{eqb, ltb}
+
+-- "states "
+abbrev pub statesWord : List ℕ
+statesWord = 115 ∷ 116 ∷ 97 ∷ 116 ∷ 101 ∷ 115 ∷ 32 ∷ []
+
+-- " nodes "
+abbrev pub nodesWord : List ℕ
+nodesWord = 32 ∷ 110 ∷ 111 ∷ 100 ∷ 101 ∷ 115 ∷ 32 ∷ []
+
+-- "refused "
+abbrev pub refusedWord : List ℕ
+refusedWord = 114 ∷ 101 ∷ 102 ∷ 117 ∷ 115 ∷ 101 ∷ 100 ∷ 32 ∷ []
+
+-- " at "
+abbrev pub atWord : List ℕ
+atWord = 32 ∷ 97 ∷ 116 ∷ 32 ∷ []
+
+abbrev pub space : List ℕ
+space = 32 ∷ []
+
+abbrev pub newline : List ℕ
+newline = 10 ∷ []
+
+-- the digits of x in base ten, the last standing for x % 10, of a number of at most so many digits
+unfoldable pub digitsBy : ℕ → ℕ → List ℕ
+digitsBy zero x = []
+digitsBy (suc most) x = cond (ltb x 10) [] (digitsBy most (x / 10)) ++ (48 + x % 10) ∷ []
+
+-- a number in decimal, with no leading zeros: x has at most x + 1 digits
+unfoldable pub decimal : ℕ → List ℕ
+decimal x = digitsBy (suc x) x
+
+-- the texts f 0, f 1, .. up to f (k - 1), one after another
+unfoldable pub joined : ℕ → (ℕ → List ℕ) → List ℕ
+joined zero f = []
+joined (suc k) f = joined k f ++ f k
+
+-- a mark, "each 1 or 0"
+abbrev pub mark : ℕ → ℕ
+mark byte = cond (eqb byte 1) 49 48
+
+-- n marks, those of the bytes from `start` on
+unfoldable pub markLine : ℕ → List ℕ → ℕ → List ℕ
+markLine n marks start = joined n (λ s. mark (getD marks (start + s) 0) ∷ [])
+
+-- "a line per node: its number, a space, n marks"
+unfoldable pub nodeLine : ℕ → List ℕ → ℕ → List ℕ
+nodeLine n marks t = decimal t ++ space ++ markLine n marks (t * n) ++ newline
+
+-- a line of two numbers, each after its word
+unfoldable pub numbersLine : List ℕ → ℕ → List ℕ → ℕ → List ℕ
+numbersLine first x second y = first ++ decimal x ++ second ++ decimal y ++ newline
+
+-- "It prints "states n nodes k", then a line per node"
+unfoldable pub listing : ℕ → ℕ → List ℕ → List ℕ
+listing n k marks = numbersLine statesWord n nodesWord k ++ joined k (nodeLine n marks)
+
+-- "A refusal is the one line "refused 9 at 2": number, then place."
+unfoldable pub refusedLine : ℕ → ℕ → List ℕ
+refusedLine number place = numbersLine refusedWord number atWord place
+
+-- the first r bytes are the text, the others as they were
+pub record Shown (text : List ℕ) (r : ℕ) (old new : List ℕ) : Type 0 where
+  pub end : r ≡ length text
+  pub bytes : new ≡ text ++ drop (length text) old

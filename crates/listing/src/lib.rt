@@ -1,0 +1,122 @@
+// The text of a result, written into a lent buffer piece by piece.
+ghost use mathlib.Core.Path.{_≡_};
+ghost use mathlib.Core.List.{[], _∷_};
+ghost use Prim.Native.Nat.{_+_, _*_, _%_, _≤_};
+ghost use lib.ListN.{length};
+ghost use Rattle.listing.specs.Text.{decimal, joined, markLine, nodeLine, numbersLine};
+ghost use Rattle.listing.specs.Text.{listing, refusedLine, Shown};
+ghost use Rattle.listing.specs.Text.{mark as Text·mark};
+ghost use Rattle.listing.specs.Piece.{Room, Appended};
+
+fn put(byte: u8, at: usize, out: &mut [u8]) -> usize
+    requires { ⌜ Room at (byte ∷ []) (now out) ⌝ }
+    ensures { λ r. ⌜ Appended at (byte ∷ []) r (now (out .entry)) (now (out .exit)) ⌝ }
+{
+    out[at] = byte;
+    at + 1
+}
+
+fn put_word(word: &[u8], at: usize, out: &mut [u8]) -> usize
+    requires { ⌜ Room at (now word) (now out) ⌝ }
+    ensures { λ r. ⌜ Appended at (now (word .entry)) r (now (out .entry)) (now (out .exit)) ⌝ }
+{
+    let mut end = at;
+    let mut i = 0;
+    while i < word.len() {
+        end = put(word[i], end, out);
+        i += 1;
+    }
+    end
+}
+
+// The last digit of x.
+fn digit(x: usize) -> u8
+    ensures { λ r. ⌜ r ≡ 48 + x % 10 ⌝ }
+{
+    48 + (x % 10) as u8
+}
+
+fn put_number(x: usize, at: usize, out: &mut [u8]) -> usize
+    requires { ⌜ Room at (decimal x) (now out) ⌝ }
+    ensures { λ r. ⌜ Appended at (decimal x) r (now (out .entry)) (now (out .exit)) ⌝ }
+{
+    if x < 10 {
+        return put(digit(x), at, out);
+    }
+    let end = put_number(x / 10, at, out);
+    put(digit(x), end, out)
+}
+
+fn mark(byte: u8) -> u8
+    ensures { λ r. ⌜ r ≡ Text·mark byte ⌝ }
+{
+    if byte == 1 {
+        return b'1';
+    }
+    b'0'
+}
+
+fn put_marks(marks: &[u8], start: usize, n: usize, at: usize, out: &mut [u8]) -> usize
+    requires { ⌜ (start + n ≤ length (now marks)) × Room at (markLine n (now marks) start) (now out) ⌝ }
+    ensures { λ r. ⌜ Appended at (markLine n (now (marks .entry)) start) r (now (out .entry)) (now (out .exit)) ⌝ }
+{
+    let mut end = at;
+    let mut s = 0;
+    while s < n {
+        end = put(mark(marks[start + s]), end, out);
+        s += 1;
+    }
+    end
+}
+
+fn put_node(n: usize, marks: &[u8], t: usize, at: usize, out: &mut [u8]) -> usize
+    requires { ⌜ (t * n + n ≤ length (now marks)) × Room at (nodeLine n (now marks) t) (now out) ⌝ }
+    ensures { λ r. ⌜ Appended at (nodeLine n (now (marks .entry)) t) r (now (out .entry)) (now (out .exit)) ⌝ }
+{
+    let numbered = put_number(t, at, out);
+    let spaced = put(b' ', numbered, out);
+    let marked = put_marks(marks, t * n, n, spaced, out);
+    put(b'\n', marked, out)
+}
+
+fn put_nodes(n: usize, k: usize, marks: &[u8], at: usize, out: &mut [u8]) -> usize
+    requires { ⌜ (k * n ≤ length (now marks)) × Room at (joined k (nodeLine n (now marks))) (now out) ⌝ }
+    ensures { λ r. ⌜ Appended at (joined k (nodeLine n (now (marks .entry)))) r (now (out .entry)) (now (out .exit)) ⌝ }
+{
+    let mut end = at;
+    let mut t = 0;
+    while t < k {
+        end = put_node(n, marks, t, end, out);
+        t += 1;
+    }
+    end
+}
+
+fn put_numbers(first: &[u8], x: usize, second: &[u8], y: usize, out: &mut [u8]) -> usize
+    requires { ⌜ Room 0 (numbersLine (now first) x (now second) y) (now out) ⌝ }
+    ensures { λ r. ⌜ Appended 0 (numbersLine (now (first .entry)) x (now (second .entry)) y) r
+        (now (out .entry)) (now (out .exit)) ⌝ }
+{
+    let mut end = put_word(first, 0, out);
+    end = put_number(x, end, out);
+    end = put_word(second, end, out);
+    end = put_number(y, end, out);
+    put(b'\n', end, out)
+}
+
+// The listing of k nodes at n states: at most 20 bytes in the first line, and 260 in each other.
+pub fn list(n: usize, k: usize, marks: &[u8], out: &mut [u8]) -> usize
+    requires { ⌜ (n ≤ 256) × (k ≤ 64) × (k * n ≤ length (now marks)) × (20 + 64 * 260 ≤ length (now out)) ⌝ }
+    ensures { λ r. ⌜ Shown (listing n k (now (marks .entry))) r (now (out .entry)) (now (out .exit)) ⌝ }
+{
+    let end = put_numbers(b"states ", n, b" nodes ", k, out);
+    put_nodes(n, k, marks, end, out)
+}
+
+// The line of a refusal: at most 33 bytes.
+pub fn refuse(number: u32, place: u32, out: &mut [u8]) -> usize
+    requires { ⌜ 33 ≤ length (now out) ⌝ }
+    ensures { λ r. ⌜ Shown (refusedLine number place) r (now (out .entry)) (now (out .exit)) ⌝ }
+{
+    put_numbers(b"refused ", number as usize, b" at ", place as usize, out)
+}

@@ -1,0 +1,234 @@
+-- Each operation writes the row of its formula, by the laws of Settled.
+use mathlib.Core.Path.{_≡_}
+use Prim.Native.Nat.{_+_, _*_, _≤_}
+use native.Mathlib.Omega.{arith}
+use lib.ListN.{length}
+use borrow.Author.Needs.{needs}
+use denote.Ref.{now}
+use Rattle.chart.proofs.Reading.{shaped}
+use Rattle.rule.proofs.Accepted.{accepted}
+use Rattle.rule.proofs.Read.{Node, known, label-low, a-lower, b-lower}
+use Rattle.nodes.specs.Parts.{Until}
+use Rattle.nodes.proofs.Settled.{
+  settled-always,
+  settled-label,
+  settled-not,
+  settled-and,
+  settled-or,
+  settled-some,
+  settled-all,
+}
+use Rattle.nodes.proofs.settle_node.Statement.{statement}
+use Rattle.nodes.proofs.settle_node.Tie as tie
+
+-- from the test of each operation back to where the node was read
+abbrev read1 : tie.After-struct-known → tie.After-node-at
+read1 c = c .before
+
+abbrev read2 : tie.After-struct-known2 → tie.After-node-at
+read2 c = read1 (c .before .before)
+
+abbrev read3 : tie.After-struct-known3 → tie.After-node-at
+read3 c = read2 (c .before .before)
+
+abbrev read4 : tie.After-struct-known4 → tie.After-node-at
+read4 c = read3 (c .before .before)
+
+abbrev read5 : tie.After-struct-known5 → tie.After-node-at
+read5 c = read4 (c .before .before)
+
+abbrev read6 : tie.After-struct-known6 → tie.After-node-at
+read6 c = read5 (c .before .before)
+
+module _ (c : tie.After-node-at) where
+  abbrev start : tie.Start
+  start = c .before .before .before .before .before
+
+  -- what was read is node t
+  node : Node (now (start .args .rule)) (start .args .t) (c .node-at .result)
+  node =
+      let p = start .pre .0 .1 in
+      record { accepted = p .unrefused; low = p .inside; read = c .node-at .ensures .0 }
+
+  -- two operands: their rows are lower
+  module _ (two : 3 ≤ c .node-at .result .operation) where
+    until : Until (start .args .t) (c .node-at .result .a) (c .node-at .result .b) (c .node-at .result .c)
+    until =
+        record { left = a-lower node (omega (arith, two)); right = b-lower node two; bound = c .node-at .ensures .1 .c }
+
+    lower :
+        (start .args .t * start .args .n + start .args .n ≤ length (now (start .args .marks))) ×
+        (c .node-at .result .a ≤ start .args .t) ×
+        (c .node-at .result .b ≤ start .args .t)
+    lower = (start .pre .0 .0 .table, omega (arith, until .left), omega (arith, until .right))
+
+-- an operation that is none of the others
+last-operation : (c : tie.Else6) → read6 (c .before) .node-at .result .operation ≡ 6
+last-operation c =
+    let else5 = c .before .before in
+    let else4 = else5 .before .before in
+    let else3 = else4 .before .before in
+    let else2 = else3 .before .before in
+    let else1 = else2 .before .before in
+    omega (
+      arith,
+      known (node (read6 (c .before))),
+      else1 .if1 .left,
+      else2 .if2 .left,
+      else3 .if3 .left,
+      else4 .if4 .left,
+      else5 .if5 .left,
+      c .if6 .left,
+    )
+
+node-at-requires : tie.Need-node-at-requires
+node-at-requires c κs =
+    let w = c .before .before .before .before .pre .0 .1 in
+    omega (arith, accepted _ (w .unrefused) .shape .whole, w .inside)
+
+fill-requires : tie.Need-fill-requires
+fill-requires c κs = (start (read1 (c .before .before)) .pre .0 .0 .table, omega arith, omega arith)
+
+same-length : tie.Need-same-length
+same-length c = search needs
+
+returns : tie.Need-returns
+returns c =
+    let ran = c .before .before in
+    let test = ran .before .before in
+    let read = read1 (test .before) in
+    let p = start read .pre in
+    settled-always (p .0 .0 .passed) (node read) (p .1) (test .if1 .taken) (ran .fill .ensures)
+
+fill-label-requires : tie.Need-fill-label-requires
+fill-label-requires c κs =
+    let test = c .before in
+    let read = read2 (test .before) in
+    let l = start read .pre .0 .0 in
+    (omega (arith, shaped (l .passed) .whole), label-low (node read) (test .if2 .taken), l .table)
+
+same-length-2 : tie.Need-same-length-2
+same-length-2 c = search needs
+
+returns-2 : tie.Need-returns-2
+returns-2 c =
+    let ran = c .before .before in
+    let test = ran .before .before in
+    let read = read2 (test .before) in
+    let p = start read .pre in
+    settled-label (p .0 .0 .passed) (node read) (p .1) (test .if2 .taken) (ran .fill-label .ensures)
+
+fill-requires-2 : tie.Need-fill-requires-2
+fill-requires-2 c κs =
+    let test = c .before in
+    let read = read3 (test .before) in
+    let low = a-lower (node read) (omega (arith, test .if3 .taken)) in
+    (start read .pre .0 .0 .table, omega (arith, low), omega (arith, low))
+
+same-length-3 : tie.Need-same-length-3
+same-length-3 c = search needs
+
+returns-3 : tie.Need-returns-3
+returns-3 c =
+    let ran = c .before .before in
+    let test = ran .before .before in
+    let read = read3 (test .before) in
+    let p = start read .pre in
+    settled-not (p .0 .0 .passed) (node read) (p .1) (test .if3 .taken) (ran .fill2 .ensures)
+
+fill-requires-3 : tie.Need-fill-requires-3
+fill-requires-3 c κs = let test = c .before in lower (read4 (test .before)) (omega (arith, test .if4 .taken))
+
+same-length-4 : tie.Need-same-length-4
+same-length-4 c = search needs
+
+returns-4 : tie.Need-returns-4
+returns-4 c =
+    let ran = c .before .before in
+    let test = ran .before .before in
+    let read = read4 (test .before) in
+    let p = start read .pre in
+    settled-and (p .0 .0 .passed) (node read) (p .1) (test .if4 .taken) (ran .fill3 .ensures)
+
+fill-requires-4 : tie.Need-fill-requires-4
+fill-requires-4 c κs = let test = c .before in lower (read5 (test .before)) (omega (arith, test .if5 .taken))
+
+same-length-5 : tie.Need-same-length-5
+same-length-5 c = search needs
+
+returns-5 : tie.Need-returns-5
+returns-5 c =
+    let ran = c .before .before in
+    let test = ran .before .before in
+    let read = read5 (test .before) in
+    let p = start read .pre in
+    settled-or (p .0 .0 .passed) (node read) (p .1) (test .if5 .taken) (ran .fill4 .ensures)
+
+some-until-requires : tie.Need-some-until-requires
+some-until-requires c κs =
+    let test = c .before .before in
+    let read = read6 (test .before) in
+    (start read .pre .0 .0, until read (omega (arith, test .if6 .taken)))
+
+same-length-6 : tie.Need-same-length-6
+same-length-6 c = search needs
+
+same-length-7 : tie.Need-same-length-7
+same-length-7 c = search needs
+
+returns-6 : tie.Need-returns-6
+returns-6 c =
+    let ran = c .before .before .before .before in
+    let test = ran .before .before .before in
+    let read = read6 (test .before) in
+    let p = start read .pre in
+    settled-some (p .0 .0 .passed) (node read) (p .1) (test .if6 .taken) (ran .some-until .ensures)
+
+all-until-requires : tie.Need-all-until-requires
+all-until-requires c κs =
+    let test = c .before .before in
+    let read = read6 (test .before) in
+    (start read .pre .0 .0, until read (omega (arith, last-operation test)))
+
+same-length-8 : tie.Need-same-length-8
+same-length-8 c = search needs
+
+same-length-9 : tie.Need-same-length-9
+same-length-9 c = search needs
+
+returns-7 : tie.Need-returns-7
+returns-7 c =
+    let ran = c .before .before .before .before in
+    let test = ran .before .before .before in
+    let read = read6 (test .before) in
+    let p = start read .pre in
+    settled-all (p .0 .0 .passed) (node read) (p .1) (last-operation test) (ran .all-until .ensures)
+
+pub settle-node-spec : {M : Type 1} → statement M
+settle-node-spec =
+    tie.close
+    (tie.spec
+    node-at-requires
+    fill-requires
+    same-length
+    returns
+    fill-label-requires
+    same-length-2
+    returns-2
+    fill-requires-2
+    same-length-3
+    returns-3
+    fill-requires-3
+    same-length-4
+    returns-4
+    fill-requires-4
+    same-length-5
+    returns-5
+    some-until-requires
+    same-length-6
+    same-length-7
+    returns-6
+    all-until-requires
+    same-length-8
+    same-length-9
+    returns-7)

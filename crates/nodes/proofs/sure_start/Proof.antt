@@ -1,0 +1,87 @@
+-- Row t holds the plain row while the numbers are filled from row a and cleared by it.
+use mathlib.Core.Path.{_∙_}
+use mathlib.Core.Bool.{Bool, false}
+use Prim.Native.Nat.{ℕ}
+use native.Mathlib.Omega.{arith}
+use borrow.Author.Needs.{needs}
+use denote.Ref.{now}
+use Rattle.model.specs.Marks.{mark}
+use Rattle.chart.proofs.Reading.{shaped}
+use Rattle.nodes.proofs.Rows.{lent-size, written-as, lent-written, lower-row}
+use Rattle.nodes.proofs.Lent.{joins, unbounded, rows-inside}
+use Rattle.nodes.proofs.Untils.{plain-answers, starts-sure}
+use Rattle.nodes.proofs.sure_start.Statement.{statement}
+use Rattle.nodes.proofs.sure_start.Tie as tie
+
+cast-unhindered : tie.Need-cast-unhindered
+cast-unhindered c = omega (arith, shaped (c .before .before .before .pre .0 .passed) .few-states)
+
+unhindered-requires : tie.Need-unhindered-requires
+unhindered-requires c κs =
+    let p = c .before .before .before .before .before .pre in
+    (p .0, unbounded (p .1), omega (arith, shaped (p .0 .passed) .few-states))
+
+fill-numbers-requires : tie.Need-fill-numbers-requires
+fill-numbers-requires c κs =
+    let plain = c .before .before .before .before .before .before in
+    let p = plain .before .before .before .before .before .before .pre in
+    let size = plain .unhindered .kept .1 .1 .1 .1 .1 .1 .1 .1 .1 .0 ∙ p .0 .size in
+    rows-inside _ (p .1) size (omega (arith, plain .unhindered .ensures .size, p .0 .table))
+
+mul-at : tie.Need-mul-at
+mul-at c = search needs
+
+add-end : tie.Need-add-end
+add-end c = search needs
+
+sub-clear-unsure : tie.Need-sub-clear-unsure
+sub-clear-unsure c = search needs
+
+part-clear-unsure-start : tie.Need-part-clear-unsure-start
+part-clear-unsure-start c = search needs
+
+part-clear-unsure-end : tie.Need-part-clear-unsure-end
+part-clear-unsure-end c = search needs
+
+clear-unsure-requires : tie.Need-clear-unsure-requires
+clear-unsure-requires c κs =
+    let plain = c .before .before .before .before .before .before .before .before .before .before .before .before in
+    let p = plain .before .before .before .before .before .before .pre in
+    (p .0 .passed, lent-size (plain .unhindered .ensures) (p .0 .table), search needs)
+
+same-length : tie.Need-same-length
+same-length c = search needs
+
+same-length-2 : tie.Need-same-length-2
+same-length-2 c = search needs
+
+returns : tie.Need-returns
+returns c =
+    let cleared = c .before .before in
+    let stayed = cleared .before .before .before .before .before .before in
+    let plain = stayed .before .before .before .before .before .before .before in
+    let start = plain .before .before .before .before .before .before in
+    let p = start .pre in
+    let holds : ℕ → ℕ → Bool = mark (start .args .n) (now (start .args .marks)) in
+    let wrote = written-as (plain .unhindered .ensures) (plain-answers _ _ _ _) in (
+      wrote,
+      starts-sure (joins (p .0 .passed) false) (holds (start .args .a)) (holds (start .args .b)) (lent-written wrote) _
+          (lower-row wrote (p .1 .left)) (stayed .fill-numbers .ensures) (cleared .clear-unsure .ensures),
+    )
+
+pub sure-start-spec : {M : Type 1} → statement M
+sure-start-spec =
+    tie.close
+    (tie.spec
+    cast-unhindered
+    unhindered-requires
+    fill-numbers-requires
+    mul-at
+    add-end
+    sub-clear-unsure
+    part-clear-unsure-start
+    part-clear-unsure-end
+    clear-unsure-requires
+    same-length
+    same-length-2
+    returns)

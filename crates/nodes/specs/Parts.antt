@@ -1,0 +1,38 @@
+-- What the functions that settle one node ask of what is lent, and when a row of marks is right.
+use mathlib.Core.Path.{_≡_}
+use mathlib.Core.List.{List}
+use Prim.Native.Nat.{ℕ, _+_, _*_, _≤_, _<_}
+use lib.ListN.{length, getD}
+use Rattle.model.specs.Decide.{holds}
+use Rattle.model.specs.Marks.{bit}
+use Rattle.chart.specs.Bytes.{chartOf}
+use Rattle.chart.specs.Shape.{Passed}
+use Rattle.rule.specs.Bytes.{nodeCount, nodeWords}
+use Rattle.rule.specs.Refusals.{ruleRefusal}
+use Rattle.rule.specs.Formula.{formulaAt}
+
+-- a chart that passes checks 1 to 9, a table of marks that holds row t, and a number for each state
+pub record Lent (chart : List ℕ) (n m t : ℕ) (marks numbers : List ℕ) : Type 0 where
+  pub passed : Passed chart n m
+  pub table : t * n + n ≤ length marks
+  pub size : length numbers ≡ n
+
+-- node t's operands, in an until: lower nodes, and c
+pub record Until (t a b c : ℕ) : Type 0 where
+  pub left : a < t
+  pub right : b < t
+  pub bound : c < 65536
+
+-- node t of a rule that passes checks 10 to 16
+pub record Node (rule : List ℕ) (t : ℕ) : Type 0 where
+  pub unrefused : ruleRefusal rule .number ≡ 0
+  pub inside : t < nodeCount rule
+
+-- row u holds the marks of node u
+abbrev pub Right : List ℕ → ℕ → List ℕ → ℕ → List ℕ → Type 0
+Right chart n rule u marks = (s : ℕ) → s < n → getD marks (u * n + s) 0 ≡ bit (holds (chartOf chart) (formulaAt rule u) s)
+
+-- the rows of node t's operands hold their marks
+pub record Operands (chart : List ℕ) (n : ℕ) (rule : List ℕ) (t : ℕ) (marks : List ℕ) : Type 0 where
+  pub left : 2 ≤ nodeWords rule t .operation → Right chart n rule (nodeWords rule t .a) marks
+  pub right : 3 ≤ nodeWords rule t .operation → Right chart n rule (nodeWords rule t .b) marks

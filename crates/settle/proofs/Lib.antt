@@ -1,0 +1,4 @@
+pub mod Visits
+pub mod Tree
+pub mod Begun
+pub mod Once

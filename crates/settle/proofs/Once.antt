@@ -1,0 +1,179 @@
+-- Settling the last node of an accepted rule settles every node exactly once.
+use mathlib.Core.Path.{_≡_, refl, sym, ap, _∙_}
+use mathlib.Core.Bool.{Bool, true, false, cond, _&&_}
+use mathlib.Core.List.{List}
+use Prim.Native.Nat.{ℕ, zero, suc, _+_, _*_, _-_, _≤_, _<_}
+use native.Mathlib.Nat.{add-mul, zero-mul, one-mul, mul-zero}
+use native.Mathlib.Omega.{arith}
+use lib.Dec.{eqb, leb}
+use borrow.Author.Tests.{leb-true, leb-false, le-leb, eqb-true, eqb-false, ne-eqb}
+use Rattle.rule.specs.Bytes.{nodeCount, nodeWords}
+use Rattle.rule.specs.Form.{formOf}
+use Rattle.rule.specs.Refusals.{uses, usesIn, names}
+use Rattle.rule.proofs.Accepted.{Accepted, lower-a, lower-b}
+use Rattle.settle.specs.Visits.{visits}
+use Rattle.settle.proofs.Visits.{visits-at}
+
+-- f 0 + f 1 + .. + f (k - 1)
+sum : (ℕ → ℕ) → ℕ → ℕ
+sum f zero = 0
+sum f (suc k) = sum f k + f k
+
+sum-same : (f g : ℕ → ℕ) (k : ℕ) → ((v : ℕ) → v < k → f v ≡ g v) → sum f k ≡ sum g k
+unfolding sum
+sum-same f g zero h = refl
+sum-same f g (suc k) h = omega (arith, sum-same f g k (λ v l. h v (omega arith)), h k (omega arith))
+
+sum-add : (f g : ℕ → ℕ) (k : ℕ) → sum (λ v. f v + g v) k ≡ sum f k + sum g k
+unfolding sum
+sum-add f g zero = refl
+sum-add f g (suc k) = omega (arith, sum-add f g k)
+
+sum-zero : (k : ℕ) → sum (λ v. 0) k ≡ 0
+unfolding sum
+sum-zero zero = refl
+sum-zero (suc k) = omega (arith, sum-zero k)
+
+-- the terms are there, or all are 0
+sum-cond : (b : Bool) (f g : ℕ → ℕ) (k : ℕ) → sum (λ v. cond b (f v) 0 * g v) k ≡ cond b (sum (λ v. f v * g v) k) 0
+sum-cond true f g k = refl
+sum-cond false f g k = sum-same (λ v. 0 * g v) (λ v. 0) k (λ v l. zero-mul (g v)) ∙ sum-zero k
+
+-- of the terms that t chooses there is none before it, and one after it
+sum-none : (t : ℕ) (g : ℕ → ℕ) (k : ℕ) → k ≤ t → sum (λ v. cond (eqb t v) 1 0 * g v) k ≡ 0
+sum-none t g k h =
+    sum-same (λ v. cond (eqb t v) 1 0 * g v) (λ v. 0) k
+    (λ v l. rw (ne-eqb t v (λ e. absurd (let z : ⊥ = omega arith in z))) (zero-mul (g v))) ∙
+    sum-zero k
+
+sum-one : (t : ℕ) (g : ℕ → ℕ) (k : ℕ) → t < k → sum (λ v. cond (eqb t v) 1 0 * g v) k ≡ g t
+unfolding sum
+sum-one t g zero h = absurd (let z : ⊥ = omega arith in z)
+sum-one t g (suc k) h = turn (eqb t k) refl (λ l. sum-one t g k l)
+  where
+    turn :
+        (b : Bool) → eqb t k ≡ b → (t < k → sum (λ v. cond (eqb t v) 1 0 * g v) k ≡ g t) →
+        sum (λ v. cond (eqb t v) 1 0 * g v) k + cond b 1 0 * g k ≡ g t
+    turn true e ih =
+        let f = eqb-true t k e in
+        omega (arith, sum-none t g k (omega arith), one-mul (g k), ap g f)
+    turn false e ih =
+        let f = eqb-false t k e in
+        omega (arith, ih (omega arith), zero-mul (g k))
+
+-- whether a node has a left operand, 2, or a right one, 3, by its form as by its operation
+has : (i op : ℕ) → i ≤ 3 → leb i (formOf op) ≡ leb i op
+unfolding formOf
+has i op h = turn (leb op 2) refl (leb op 4) (leb op 6)
+  where
+    turn : (x : Bool) → leb op 2 ≡ x → (y z : Bool) → leb i (cond x op (cond y 3 (cond z 4 5))) ≡ leb i op
+    turn true e y z = refl
+    turn false e y z =
+        let l = leb-false op 2 e in
+        let high : i ≤ cond y 3 (cond z 4 5) = three-at-least y z in
+        le-leb i _ high ∙ sym (le-leb i op (omega arith))
+      where
+        three-at-least : (y z : Bool) → i ≤ cond y 3 (cond z 4 5)
+        three-at-least true z = h
+        three-at-least false true = omega arith
+        three-at-least false false = omega arith
+
+-- what an operand adds: the operand itself, and what it leads to
+operand-adds :
+    (b e : Bool) (x y : ℕ) → (b ≡ true → x ≡ cond e 1 0 + y) → cond b x 0 ≡ cond (b && e) 1 0 + cond b y 0
+operand-adds true e x y h = h refl
+operand-adds false e x y h = refl
+
+not-both : (b e : Bool) → (b ≡ true → e ≡ false) → cond {A = ℕ} (b && e) 1 0 ≡ 0
+not-both true e h = ap (λ e. cond {A = ℕ} e 1 0) (h refl)
+not-both false e h = refl
+
+module _ {s : List ℕ} (acc : Accepted s) where
+  abbrev k : ℕ
+  k = nodeCount s
+
+  -- how often node v names u as an operand
+  abbrev named : ℕ → ℕ → ℕ
+  named u v = usesIn u (nodeWords s v)
+
+  -- by the operation
+  named-at :
+      (u v : ℕ) →
+      let w = nodeWords s v in
+      named u v ≡ names (leb 2 (w .operation)) (w .a) u + names (leb 3 (w .operation)) (w .b) u
+  unfolding usesIn
+  named-at u v =
+      let w = nodeWords s v in
+      rw (has 2 (w .operation) (omega arith), has 3 (w .operation) (omega arith)) refl
+
+  -- Settling t settles u as itself, or through a node v that it settles and that names u: v is t, or an operand of t
+  -- leads to it.
+  flow : (d t u : ℕ) → t < d → t < k → visits s t u ≡ cond (eqb t u) 1 0 + sum (λ v. visits s t v * named u v) k
+  flow zero t u h l = absurd (let z : ⊥ = omega arith in z)
+  flow (suc d) t u h l =
+      let w = nodeWords s t in
+      let g : ℕ → ℕ = named u in
+      let x : ℕ → ℕ = λ v. cond (eqb t v) 1 0 in
+      let y : ℕ → ℕ = λ v. cond (leb 2 (w .operation)) (visits s (w .a) v) 0 in
+      let z : ℕ → ℕ = λ v. cond (leb 3 (w .operation)) (visits s (w .b) v) 0 in
+      let terms : sum (λ v. visits s t v * g v) k ≡ sum (λ v. x v * g v + y v * g v + z v * g v) k =
+      sum-same (λ v. visits s t v * g v) (λ v. x v * g v + y v * g v + z v * g v) k
+      (λ v i. ap (λ c. c * g v) (visits-at acc t v l) ∙
+      add-mul (x v + y v) (z v) (g v) ∙ ap (λ c. c + z v * g v) (add-mul (x v) (y v) (g v))) in
+      let parts = sum-add (λ v. x v * g v + y v * g v) (λ v. z v * g v) k in
+      let first = sum-add (λ v. x v * g v) (λ v. y v * g v) k in
+      let own = sum-one t g k l in
+      let left = sum-cond (leb 2 (w .operation)) (visits s (w .a)) g k in
+      let right = sum-cond (leb 3 (w .operation)) (visits s (w .b)) g k in
+      let a = operand-adds (leb 2 (w .operation)) (eqb (w .a) u) (visits s (w .a) u) (sum (λ v. visits s (w .a) v * g v) k)
+      (λ e. let i = lower-a acc t l (leb-true 2 _ e) in flow d (w .a) u (omega arith) (omega arith)) in
+      let b = operand-adds (leb 3 (w .operation)) (eqb (w .b) u) (visits s (w .b) u) (sum (λ v. visits s (w .b) v * g v) k)
+      (λ e. let i = lower-b acc t l (leb-true 3 _ e) in flow d (w .b) u (omega arith) (omega arith)) in
+      omega (arith, visits-at acc t u l, terms, parts, first, own, left, right, a, b, named-at u t)
+
+  -- an operand is lower than the node that names it
+  unnamed : (u v : ℕ) → v ≤ u → v < k → named u v ≡ 0
+  unnamed u v h l =
+      let w = nodeWords s v in
+      let x = not-both (leb 2 (w .operation)) (eqb (w .a) u) (λ e.
+      let i = lower-a acc v l (leb-true 2 _ e) in ne-eqb (w .a) u (λ f. absurd (let z : ⊥ = omega arith in z))) in
+      let y = not-both (leb 3 (w .operation)) (eqb (w .b) u) (λ e.
+      let i = lower-b acc v l (leb-true 3 _ e) in ne-eqb (w .b) u (λ f. absurd (let z : ⊥ = omega arith in z))) in
+      omega (arith, named-at u v, x, y)
+
+  uses-sum : (u j : ℕ) → uses s j u ≡ sum (named u) j
+  unfolding uses sum
+  uses-sum u zero = refl
+  uses-sum u (suc j) = ap (λ x. x + named u j) (uses-sum u j)
+
+  -- Downwards from the last node: the nodes that name u are above it, so each is settled once, and they name it once.
+  once-from : (d u : ℕ) → u < k → k ≤ u + d → visits s (k - 1) u ≡ 1
+  once-from zero u l h = absurd (let z : ⊥ = omega arith in z)
+  once-from (suc d) u l h =
+      let last = k - 1 in
+      let through = flow k last u (omega arith) (omega arith) in
+      let terms = sum-same (λ v. visits s last v * named u v) (named u) k
+      (λ v i. term v i (leb v u) refl (λ m. once-from d v i (omega arith))) in
+      total (eqb last u) refl (omega (arith, through, terms, uses-sum u k))
+    where
+      term :
+          (v : ℕ) → v < k → (b : Bool) → leb v u ≡ b → (u < v → visits s (k - 1) v ≡ 1) →
+          visits s (k - 1) v * named u v ≡ named u v
+      term v i true e ih =
+          let z = unnamed u v (leb-true v u e) i in
+          rw z (mul-zero (visits s (k - 1) v))
+      term v i false e ih = rw (ih (leb-false v u e)) (one-mul (named u v))
+
+      total :
+          (b : Bool) → eqb (k - 1) u ≡ b → visits s (k - 1) u ≡ cond b 1 0 + uses s k u → visits s (k - 1) u ≡ 1
+      total true e f =
+          let top = eqb-true (k - 1) u e in
+          let none = sum-same (named u) (λ v. 0) k (λ v i. unnamed u v (omega arith) i) in
+          omega (arith, f, uses-sum u k, none, sum-zero k)
+      total false e f =
+          let low = eqb-false (k - 1) u e in
+          omega (arith, f, acc .once u (omega arith))
+
+  -- "Every node but the last is an operand exactly once."
+  pub once : (u : ℕ) → u < k → visits s (k - 1) u ≡ 1
+  once u l = once-from k u l (omega arith)

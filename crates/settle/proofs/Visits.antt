@@ -1,0 +1,53 @@
+-- How often settling a node settles another, from how often settling its operands does.
+use mathlib.Core.Path.{_≡_, refl}
+use mathlib.Core.Bool.{Bool, true, false, cond}
+use mathlib.Core.List.{List}
+use Prim.Native.Nat.{ℕ, zero, suc, _+_, _<_}
+use native.Mathlib.Omega.{arith}
+use lib.Dec.{eqb, leb}
+use borrow.Author.Tests.{leb-true, eq-eqb}
+use Rattle.rule.specs.Bytes.{nodeCount, nodeWords}
+use Rattle.rule.proofs.Accepted.{Accepted, lower-a, lower-b}
+use Rattle.settle.specs.Visits.{visitsBy, visits}
+
+-- two counts agree if they agree where they count
+cond-same : (b : Bool) {x y : ℕ} → (b ≡ true → x ≡ y) → cond b x 0 ≡ cond b y 0
+cond-same true f = f refl
+cond-same false f = refl
+
+module _ {s : List ℕ} (acc : Accepted s) where
+  -- any depth above the node's number gives the same count: each operand's number is lower by one at least
+  depth-same : (d e t u : ℕ) → t < nodeCount s → t < d → t < e → visitsBy d s t u ≡ visitsBy e s t u
+  unfolding visitsBy
+  depth-same zero e t u l h k = absurd (let z : ⊥ = omega arith in z)
+  depth-same (suc d) zero t u l h k = absurd (let z : ⊥ = omega arith in z)
+  depth-same (suc d) (suc e) t u l h k =
+      let op = nodeWords s t .operation in
+      let x = cond-same (leb 2 op) (λ g.
+      let v = lower-a acc t l (leb-true 2 op g) in
+      depth-same d e (nodeWords s t .a) u (omega arith) (omega arith) (omega arith)) in
+      let y = cond-same (leb 3 op) (λ g.
+      let v = lower-b acc t l (leb-true 3 op g) in
+      depth-same d e (nodeWords s t .b) u (omega arith) (omega arith) (omega arith)) in
+      omega (arith, x, y)
+
+  -- node t once, and what its operands settle
+  pub visits-at :
+      (t u : ℕ) → t < nodeCount s →
+      visits s t u ≡
+      cond (eqb t u) 1 0 +
+      cond (leb 2 (nodeWords s t .operation)) (visits s (nodeWords s t .a) u) 0 +
+      cond (leb 3 (nodeWords s t .operation)) (visits s (nodeWords s t .b) u) 0
+  unfolding visitsBy
+  visits-at t u l =
+      let op = nodeWords s t .operation in
+      let x = cond-same (leb 2 op) (λ g.
+      let v = lower-a acc t l (leb-true 2 op g) in
+      depth-same t (suc (nodeWords s t .a)) (nodeWords s t .a) u (omega arith) v (omega arith)) in
+      let y = cond-same (leb 3 op) (λ g.
+      let v = lower-b acc t l (leb-true 3 op g) in
+      depth-same t (suc (nodeWords s t .b)) (nodeWords s t .b) u (omega arith) v (omega arith)) in
+      omega (arith, x, y)
+
+  pub visits-self : (t : ℕ) → t < nodeCount s → 0 < visits s t t
+  visits-self t l = rw (visits-at t t l, eq-eqb t t refl) (omega arith)

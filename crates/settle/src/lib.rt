@@ -1,0 +1,29 @@
+// Settling a node of a rule's tree: its operands first, whose numbers are lower, then its own row of marks.
+ghost use Rattle.nodes.specs.Parts.{Lent, Node};
+ghost use Rattle.settle.specs.Parts.{Settled};
+
+pub fn settle(
+    chart: &[u8],
+    n: usize,
+    m: usize,
+    rule: &[u8],
+    t: usize,
+    marks: &mut [u8],
+    numbers: &mut [u32],
+)
+    requires { ⌜ Lent (now chart) n m t (now marks) (now numbers) × Node (now rule) t ⌝ }
+    ensures { λ _. ⌜ Settled (now (chart .entry)) n (now (rule .entry)) t (now (marks .entry)) (now (marks .exit)) ⌝ }
+{
+    let node = rule::node_at(rule, t);
+    if node.operation < 2 {
+        nodes::settle_node(chart, n, m, rule, t, marks, numbers);
+        return;
+    }
+    settle(chart, n, m, rule, node.a, marks, numbers);
+    if node.operation == 2 {
+        nodes::settle_node(chart, n, m, rule, t, marks, numbers);
+        return;
+    }
+    settle(chart, n, m, rule, node.b, marks, numbers);
+    nodes::settle_node(chart, n, m, rule, t, marks, numbers);
+}
