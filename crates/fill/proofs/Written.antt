@@ -6,12 +6,12 @@ use mathlib.Core.List.{List}
 use Prim.Native.Nat.{ℕ, _+_, _*_, _≤_, _<_}
 use native.Mathlib.Omega.{arith}
 use native.Mathlib.Decide.{decLt}
-use native.Mathlib.Nat.{mul-le-mul-right, suc-mul}
 use mir.Val.{boolByte}
 use lib.ListN.{length, getD, set, length-set}
 use lib.Seq.{getD-set-same, getD-set-other}
 use borrow.Author.Count.{below-none, below-more}
 use Rattle.model.specs.Marks.{bit}
+use Rattle.model.proofs.Marks.{row-below}
 use Rattle.fill.specs.Parts.{Written}
 
 -- entries at places that differ are as g says, and one more after it is set
@@ -63,5 +63,5 @@ pub row-next :
     getD new (a * n + i) 0 ≡ getD old (a * n + i) 0
 row-next {a} {t} {n} {i} h l w =
     w .elsewhere (a * n + i)
-    (by-cases (decLt a t) (λ k. inl (omega (arith, mul-le-mul-right n k, suc-mul a n)))
+    (by-cases (decLt a t) (λ k. inl (omega (arith, row-below n k)))
     (λ k. inr (let e : a ≡ t = omega arith in rw e (omega arith))))

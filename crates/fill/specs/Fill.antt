@@ -6,7 +6,6 @@ use Prim.Native.Nat.{ℕ}
 use lib.Dec.{eqb, ltb, leb}
 use Rattle.tctl.specs.Chart.{Arrow}
 use Rattle.model.specs.Every.{every}
-use Rattle.model.specs.Decide.{waiting}
 use Rattle.fill.specs.declared.Mix.{Mix}
 use Rattle.fill.specs.declared.Mix.the-variants.{Yes, First, Not, And, Or, Waiting}
 use Rattle.fill.specs.declared.Base.{Base}

@@ -1,5 +1,6 @@
 pub mod Every
 pub mod Numbers
+pub mod Marks
 pub mod Rounds
 pub mod RoundLaws
 pub mod Lower

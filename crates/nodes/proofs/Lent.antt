@@ -12,6 +12,7 @@ use Rattle.tctl.specs.Chart.{Arrow}
 use Rattle.model.specs.Engine.{Numbers}
 use Rattle.model.specs.Marks.{mark}
 use Rattle.model.specs.Decide.{ask, plainRow, sureRow}
+use Rattle.model.proofs.Marks.{row-below}
 use Rattle.model.proofs.Numbers.{tabulate-numbers}
 use Rattle.model.proofs.Same.{Joins, joins-ticking}
 use Rattle.chart.specs.Bytes.{chartOf}
@@ -25,7 +26,7 @@ use Rattle.fill.specs.Fill.{baseOf}
 use Rattle.fill.specs.Parts.{Written}
 use Rattle.nodes.specs.Parts.{Lent, Until}
 use Rattle.nodes.specs.Sure.{sureStart}
-use Rattle.nodes.proofs.Rows.{row-below, lent, lent-size}
+use Rattle.nodes.proofs.Rows.{lent, lent-size}
 
 -- the arrows join states, and so they do if they weigh ticks
 pub joins :

@@ -1,26 +1,17 @@
 -- The rows of a table of marks: one is written, written again, lent; the rows below it stay.
-use mathlib.Core.Path.{_≡_, ap, subst, _∙_}
+use mathlib.Core.Path.{_≡_, ap, _∙_}
 use mathlib.Core.Logic.{inl}
-use mathlib.Core.Bool.{Bool, true, false}
+use mathlib.Core.Bool.{Bool}
 use mathlib.Core.List.{List}
 use Prim.Native.Nat.{ℕ, _+_, _*_, _-_, _≤_, _<_}
 use native.Mathlib.Omega.{arith}
-use native.Mathlib.Nat.{suc-mul, mul-le-mul-right}
 use lib.ListN.{length, take, drop, length-take, length-drop}
 use lib.Seq.{getD-take, getD-drop}
 use lib.Dec.{eqb}
 use Rattle.model.specs.Marks.{bit, flag, mark}
+use Rattle.model.proofs.Marks.{bit-says, row-below}
 use Rattle.model.proofs.Same.{Same}
 use Rattle.fill.specs.Parts.{Written, Wrote}
-
--- the mark of b says b
-pub bit-says : (b : Bool) {v : ℕ} → v ≡ bit b → eqb v 1 ≡ b
-bit-says true e = rw e
-bit-says false e = rw e
-
--- a row ends before a higher one begins
-pub row-below : {a t : ℕ} (n : ℕ) → a < t → a * n + n ≤ t * n
-row-below {a} {t} n l = subst (λ x. x ≤ t * n) (suc-mul a n) (mul-le-mul-right n l)
 
 -- n marks from a place on, as they are lent
 abbrev pub lent : ℕ → ℕ → List ℕ → List ℕ

@@ -13,6 +13,7 @@ use Rattle.tctl.specs.Formula.{Formula, Bound, label}
 use Rattle.tctl.proofs.Tabulate.{getD-tabulate}
 use Rattle.model.specs.Decide.{ask, someRow, allRow, row, holds}
 use Rattle.model.specs.Marks.{mark}
+use Rattle.model.proofs.Marks.{bit-says}
 use Rattle.model.proofs.Same.{Same, some-row-same, all-row-same}
 use Rattle.chart.specs.Bytes.{labelWord, chartOf}
 use Rattle.chart.specs.Shape.{Passed}
@@ -23,7 +24,7 @@ use Rattle.rule.specs.declared.NodeWords.{NodeWords}
 use Rattle.rule.proofs.Read.{Node, step}
 use Rattle.fill.specs.Parts.{Wrote}
 use Rattle.nodes.specs.Parts.{Right, Operands}
-use Rattle.nodes.proofs.Rows.{bit-says, written-as}
+use Rattle.nodes.proofs.Rows.{written-as}
 use Rattle.nodes.proofs.Lent.{joins}
 
 module _ {chart : List ℕ} {n m : ℕ} (passed : Passed chart n m) where

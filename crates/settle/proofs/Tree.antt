@@ -1,15 +1,16 @@
 -- Settling a node: after the rows of its operands, its own.
-use mathlib.Core.Path.{_≡_, refl, sym, subst, _∙_}
-use mathlib.Core.Logic.{_⊎_, inl, inr}
+use mathlib.Core.Path.{_≡_, refl, subst, _∙_}
+use mathlib.Core.Logic.{_⊎_, inl, inr, by-cases}
 use mathlib.Core.Bool.{Bool, true, false, cond}
 use mathlib.Core.List.{List}
 use Prim.Native.Nat.{ℕ, zero, suc, _+_, _*_, _≤_, _<_}
-use native.Mathlib.Nat.{suc-mul, mul-le-mul-right}
+use native.Mathlib.Decide.{decLt}
 use native.Mathlib.Omega.{arith}
 use lib.ListN.{length, getD}
 use lib.Dec.{eqb, leb}
 use borrow.Author.Tests.{leb-true, eqb-true}
 use Rattle.model.specs.Decide.{holds}
+use Rattle.model.proofs.Marks.{row-below}
 use Rattle.chart.specs.Bytes.{chartOf}
 use Rattle.rule.specs.Bytes.{nodeCount, nodeWords}
 use Rattle.rule.specs.Formula.{formulaAt}
@@ -19,22 +20,6 @@ use Rattle.nodes.specs.Parts.{Right, Operands}
 use Rattle.settle.specs.Visits.{visits}
 use Rattle.settle.specs.Parts.{Settled}
 use Rattle.settle.proofs.Visits.{visits-at, visits-self}
-
--- the rows of lower nodes end where row t begins
-pub past : (n u t : ℕ) → u < t → u * n + n ≤ t * n
-past n u t h = subst (λ (x : ℕ). x ≤ t * n) (suc-mul u n) (mul-le-mul-right n h)
-
--- a number is another, or less, or more
-three : (u t : ℕ) → (u ≡ t) ⊎ ((u < t) ⊎ (t < u))
-three zero zero = inl refl
-three zero (suc t) = inr (inl (omega arith))
-three (suc u) zero = inr (inr (omega arith))
-three (suc u) (suc t) = turn (three u t)
-  where
-    turn : (u ≡ t) ⊎ ((u < t) ⊎ (t < u)) → (suc u ≡ suc t) ⊎ ((suc u < suc t) ⊎ (suc t < suc u))
-    turn (inl e) = inl (omega arith)
-    turn (inr (inl h)) = inr (inl (omega arith))
-    turn (inr (inr h)) = inr (inr (omega arith))
 
 -- one of three counts that together are more than 0 is
 one-of :
@@ -62,12 +47,12 @@ module _ (chart : List ℕ) (n : ℕ) (rule : List ℕ) (t : ℕ) where
   wrote-still :
       {mid new : List ℕ} → Wrote n t (holds (chartOf chart) (formulaAt rule t)) mid new →
       (u : ℕ) → Right chart n rule u mid → Right chart n rule u new
-  wrote-still {mid} {new} w u r = turn (three u t)
-    where
-      turn : (u ≡ t) ⊎ ((u < t) ⊎ (t < u)) → Right chart n rule u new
-      turn (inl e) = subst (λ v. Right chart n rule v new) (sym e) (w .here)
-      turn (inr (inl h)) = λ s k. w .elsewhere (u * n + s) (inl (omega (arith, past n u t h))) ∙ r s k
-      turn (inr (inr h)) = λ s k. w .elsewhere (u * n + s) (inr (omega (arith, past n t u h))) ∙ r s k
+  wrote-still {new = new} w u r =
+      by-cases (decLt u t)
+      (λ h s k. w .elsewhere (u * n + s) (inl (omega (arith, row-below n h))) ∙ r s k)
+      (λ h. by-cases (decLt t u)
+      (λ i s k. w .elsewhere (u * n + s) (inr (omega (arith, row-below n i))) ∙ r s k)
+      (λ i. let e : t ≡ u = omega arith in subst (λ v. Right chart n rule v new) e (w .here)))
 
 module _ {chart : List ℕ} {n : ℕ} {rule : List ℕ} {t : ℕ} where
   -- a node without operands
@@ -92,7 +77,7 @@ module _ {chart : List ℕ} {n : ℕ} {rule : List ℕ} {t : ℕ} where
           left = λ k. x .done;
           right = λ k. absurd (let z : ⊥ = omega arith in z);
           still = x .still;
-          after = λ j k. x .after j (omega (arith, past n (nodeWords rule t .a) t (lower-a acc t l (omega arith))));
+          after = λ j k. x .after j (omega (arith, row-below n (lower-a acc t l (omega arith))));
         }
 
     -- two operands, one after the other: the second keeps the rows of the first right
@@ -107,8 +92,8 @@ module _ {chart : List ℕ} {n : ℕ} {rule : List ℕ} {t : ℕ} where
           right = λ k. y .done;
           still = λ u r. y .still u (x .still u r);
           after = λ j k.
-              y .after j (omega (arith, past n (nodeWords rule t .b) t (lower-b acc t l h))) ∙
-              x .after j (omega (arith, past n (nodeWords rule t .a) t (lower-a acc t l (omega arith))));
+              y .after j (omega (arith, row-below n (lower-b acc t l h))) ∙
+              x .after j (omega (arith, row-below n (lower-a acc t l (omega arith))));
         }
 
     pub operands : {old mid : List ℕ} → Below chart n rule t old mid → Operands chart n rule t mid

@@ -9,8 +9,8 @@ use Rattle.settle.proofs.settle.Kinds as settle-kinds
 use Rattle.settle.proofs.+settle.Lts-settle as settle-lts
 use Rattle.nodes.proofs.settle_node.Reads as settle-node-reads
 use Rattle.rule.proofs.Accepted.{accepted}
-use Rattle.settle.proofs.Tree.{settled}
-use Rattle.settle.proofs.Begun.{Begun, rule-accepted, a-lower, b-lower, operand-asks, own-asks, none-below, one-below, both-below}
+use Rattle.rule.proofs.Read.{a-lower, b-lower}
+use Rattle.settle.proofs.Begun.{Begun, operand-asks, none-below, one-below, both-below, own-asks, own-settled}
 use Rattle.rule.proofs.node_at.Reads as node-at-reads
 use Rattle.settle.proofs.+settle.{statement}
 use Rattle.settle.proofs.+settle.Tie.{close}
@@ -36,7 +36,10 @@ begun :
     (now (start .marks)) (now (start .numbers))
 begun t c =
     let p = c .before .before .before .before .before .pre in
-    record { lent = p .1 .0; node = p .1 .1; read = c .node-at .ensures .0 }
+    record {
+      lent = p .1 .0;
+      node = record { accepted = p .1 .1 .unrefused; low = p .1 .1 .inside; read = c .node-at .ensures .0 };
+    }
 
 settle-node-at-requires : (t : ℕ) → settle-lts.Need-node-at-requires (calls t) (settle-at t) settle.Post
 settle-node-at-requires t c κs =
@@ -60,13 +63,13 @@ settle-returns t c =
     let own = c .before .before .before .before in
     let leaf = own .before .before .before in
     let b = begun t (leaf .before .before) in
-    settled (rule-accepted b) (b .node .inside) (none-below b (leaf .if1 .taken)) (own .settle-node .ensures)
+    own-settled b (none-below b (leaf .if1 .taken)) (own .settle-node .ensures)
 
 settle-settle-requires : (t : ℕ) → settle-lts.Need-settle-requires (calls t) (settle-at t) settle.Post
 settle-settle-requires t c κs =
     let read = c .before .before .before .before in
     let b = begun t read in
-    let low = a-lower b (omega arith) in
+    let low = a-lower (b .node) (omega arith) in
     (omega (arith, low, read .before .before .before .before .before .pre .0), operand-asks b low refl refl)
 
 settle-settle-node-requires-2 : (t : ℕ) → settle-lts.Need-settle-node-requires-2 (calls t) (settle-at t) settle.Post
@@ -94,7 +97,7 @@ settle-returns-2 t c =
     let not = own .before .before .before in
     let left = not .before .before .before .before .before .before in
     let b = begun t (left .before .before .before .before .before) in
-    settled (rule-accepted b) (b .node .inside) (one-below b (not .if2 .taken) (left .settle .ensures))
+    own-settled b (one-below b (not .if2 .taken) (left .settle .ensures))
     (own .settle-node2 .ensures)
 
 settle-settle-requires-2 : (t : ℕ) → settle-lts.Need-settle-requires-2 (calls t) (settle-at t) settle.Post
@@ -103,7 +106,7 @@ settle-settle-requires-2 t c κs =
     let left = two .before .before .before .before .before .before in
     let read = left .before .before .before .before .before in
     let b = begun t read in
-    let low = b-lower b (omega arith) in (
+    let low = b-lower (b .node) (omega arith) in (
       omega (arith, low, read .before .before .before .before .before .pre .0),
       operand-asks b low (left .settle .kept .1 .1 .1 .1 .1 .0) (left .settle .kept .1 .1 .1 .1 .1 .1 .0),
     )
@@ -143,7 +146,7 @@ settle-returns-3 t c =
     let one = left .before .before .before in
     let b = begun t (one .before .before) in
     let below = both-below b (one .if1 .left) (two .if2 .left) (left .settle .ensures) (right .settle2 .ensures) in
-    settled (rule-accepted b) (b .node .inside) below (own .settle-node3 .ensures)
+    own-settled b below (own .settle-node3 .ensures)
 
 pub +settle-spec : {M : Type 1} → statement M
 +settle-spec = close μ-settle λ t. settle-lts.spec (calls t)
