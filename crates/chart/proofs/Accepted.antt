@@ -25,7 +25,7 @@ use Rattle.chart.proofs.Passed.{shape, named}
 use Rattle.chart.proofs.Chart.{states-of, arrow-mem, arrow-of}
 
 -- none of the rows' conditions is met
-pub record Checked (s : List ℕ) : Type 0 where
+pub record WellFormed (s : List ℕ) : Type 0 where
   pub head : Headed 9 s
   pub shape : Shape s (stateCount s) (arrowCount s)
   pub ends :
@@ -33,9 +33,9 @@ pub record Checked (s : List ℕ) : Type 0 where
   pub slots : (i : ℕ) → i < arrowCount s → emptySlot (arrowWords s i) ≡ false
   pub left : (v : ℕ) → v < stateCount s → leftBy s (arrowCount s) v ≡ true
 
-pub checked : (s : List ℕ) → chartRefusal s .number ≡ 0 → Checked s
+pub well-formed : (s : List ℕ) → chartRefusal s .number ≡ 0 → WellFormed s
 unfolding chartTable
-checked s e =
+well-formed s e =
     let n = stateCount s in
     let m = arrowCount s in
     let unmet = unmet-at (chartTable s) tt e in
@@ -59,7 +59,7 @@ slot-within w e = turn (eqb (w .most) 65535)
     turn true = tt
     turn false = fits
 
-module _ (s : List ℕ) (ok : Checked s) where
+module _ (s : List ℕ) (ok : WellFormed s) where
   pub chart-named :
       (a : Arrow) → List·Memᴰ a (chartOf s .arrows) →
       (a .start < states (chartOf s)) × (a .end < states (chartOf s))

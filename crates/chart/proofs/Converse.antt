@@ -9,7 +9,7 @@ use borrow.Author.Tests.{le-ltb, lt-leb, eq-eqb, ne-eqb}
 use Rattle.tctl.specs.Chart.{Arrow}
 use Rattle.tctl.specs.Accepted.{Accepted}
 use Rattle.outcome.proofs.Place.{equal-none, inside-none}
-use Rattle.outcome.proofs.First.{Unmet, end}
+use Rattle.outcome.specs.Met.{Unmet, end}
 use Rattle.outcome.proofs.Unmet.{unmet-more, unmet-append-iff}
 use Rattle.outcome.proofs.Lowest.{below-none, offender-found}
 use Rattle.head.specs.Head.{headRows, Headed}
@@ -18,7 +18,7 @@ use Rattle.chart.specs.Bytes.{stateCount, arrowCount, arrowWords, chartO
 use Rattle.chart.specs.Shape.{Shape}
 use Rattle.chart.specs.Refusals.{chartTable, namesNoState, emptySlot, leftBy}
 use Rattle.chart.specs.declared.ArrowWords.{ArrowWords}
-use Rattle.chart.proofs.Accepted.{Checked}
+use Rattle.chart.proofs.Accepted.{WellFormed}
 use Rattle.chart.proofs.Chart.{states-of, arrow-mem, arrow-of}
 
 -- ── The conditions of an arrow ──
@@ -32,9 +32,9 @@ not-empty w h = rw (le-ltb (w .most) (w .fewest) (h .0), ne-eqb (w .fewest) 6553
 -- ── The table ──
 
 -- row by row, each condition is false
-pub checked-unmet : (s : List ℕ) → Checked s → Unmet (chartTable s)
+pub formed-unmet : (s : List ℕ) → WellFormed s → Unmet (chartTable s)
 unfolding chartTable
-checked-unmet s ok =
+formed-unmet s ok =
     let n = stateCount s in
     let m = arrowCount s in
     let w = arrowWords s in
@@ -60,12 +60,12 @@ module _ (s : List ℕ) (acc : Accepted (chartOf s)) where
       offender-found (λ i. eqb (arrowWords s i .start) v) (y .1) (eq-eqb _ v e)
 
   -- rows 7 and 9 from the meaning, the others from the format
-  pub accepted-checked :
+  pub accepted-formed :
       Headed 9 s → Shape s (stateCount s) (arrowCount s) →
       ((i : ℕ) → i < arrowCount s →
       (arrowWords s i .fewest ≤ arrowWords s i .most) × (arrowWords s i .fewest ≡ 65535 → ⊥)) →
-      Checked s
-  accepted-checked head shape slots =
+      WellFormed s
+  accepted-formed head shape slots =
       record {
         head = head;
         shape = shape;

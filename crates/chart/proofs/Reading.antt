@@ -7,12 +7,12 @@ use Rattle.tctl.specs.Chart.{states}
 use Rattle.tctl.proofs.Drawn.{Drawn}
 use Rattle.chart.specs.Bytes.{arrowWords, chartOf}
 use Rattle.chart.specs.Shape.{Shape, Passed}
-use Rattle.chart.proofs.Accepted.{Checked, checked, chart-named, chart-slots}
+use Rattle.chart.proofs.Accepted.{WellFormed, well-formed, chart-named, chart-slots}
 use Rattle.chart.proofs.Chart.{states-of}
 
 module _ {s : List ℕ} {n m : ℕ} (p : Passed s n m) where
-  ok : Checked s
-  ok = checked s (p .unrefused)
+  ok : WellFormed s
+  ok = well-formed s (p .unrefused)
 
   pub shaped : Shape s n m
   shaped = subst₂ (Shape s) (sym (p .states)) (sym (p .arrows)) (ok .shape)

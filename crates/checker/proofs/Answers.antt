@@ -1,11 +1,11 @@
 -- Check's two answers: a refusal before anything is written, and what is left once row 19 was tested and scratch cleared.
-use mathlib.Core.Path.{_≡_, refl, sym, ap, subst}
+use mathlib.Core.Path.{_≡_, refl, sym, ap, subst, _∙_}
 use mathlib.Core.Logic.{_⊎_, inl, inr}
 use mathlib.Core.Bool.{Bool, true, false, cond, _||_}
 use mathlib.Core.List.{List, [], _∷_, _++_}
 use Prim.Native.Nat.{ℕ, _+_, _*_, _-_, _<_}
 use native.Mathlib.Omega.{arith}
-use lib.ListN.{getD, drop, replicate}
+use lib.ListN.{drop, replicate}
 use lib.Dec.{eqb}
 use borrow.Author.Tests.{ne-eqb, eqb-true, eqb-false}
 use Rattle.tctl.specs.Holds.{Holds}
@@ -16,22 +16,20 @@ use Rattle.outcome.specs.declared.Outcome.{Outcome}
 use Rattle.outcome.specs.Refusal.{first}
 use Rattle.outcome.proofs.First.{part-zero}
 use Rattle.chart.specs.Bytes.{stateCount, chartOf}
-use Rattle.chart.specs.Refusals.{chartTable}
-use Rattle.chart.proofs.Accepted.{checked}
+use Rattle.chart.proofs.Accepted.{well-formed}
 use Rattle.chart.proofs.Chart.{states-of}
 use Rattle.rule.specs.Bytes.{nodeCount}
-use Rattle.rule.specs.Refusals.{ruleTable}
 use Rattle.rule.specs.Formula.{formulaAt}
 use Rattle.loops.specs.Refusal.{loopRow, acceptedTable}
 use Rattle.loops.proofs.Chain as loops
 use Rattle.loops.proofs.Accepted.{accepted-only}
-use Rattle.checker.specs.Check.{marksOf, marksAfter, scratchAfter, Tells, Checked}
-use Rattle.checker.specs.Parts.{roomRows, Judged}
-use Rattle.checker.proofs.Chain.{input-refuses, input-number, loop-next, passes, loop-number}
+use Rattle.checker.specs.Check.{scratchSize, marksOf, marksAfter, scratchAfter, Tells, Meaning, Checked}
+use Rattle.checker.specs.Parts.{inputTable, Judged}
+use Rattle.checker.proofs.Chain.{input-refuses, input-number, loop-next, input-passes, loop-number}
 use Rattle.checker.proofs.Marks.{marks-written, bit-tells}
 
 module _ (chart rule marks scratch : List ℕ) {r : Outcome}
-    (e : r ≡ first (chartTable chart ++ ruleTable rule ++ roomRows (stateCount chart) (nodeCount rule) marks scratch)) where
+    (e : r ≡ first (inputTable chart rule marks scratch)) where
   -- a refusal by rows 1 to 18: nothing is written
   pub refused-checked : ¬ (r .number ≡ 0) → Checked chart rule marks scratch r marks scratch
   unfolding marksAfter scratchAfter
@@ -51,11 +49,11 @@ module _ (chart rule marks scratch : List ℕ) {r : Outcome}
 
     -- the chart has a state, and if row 19 is not met either it is accepted
     some-states : 0 < n
-    some-states = checked chart (passes chart rule marks scratch e z .of-chart) .shape .some-states
+    some-states = well-formed chart (input-passes chart rule marks scratch e z .of-chart) .shape .some-states
 
     accepted : o .number ≡ 0 → Accepted (chartOf chart)
     accepted w =
-        let a = passes chart rule marks scratch e z .of-chart in
+        let a = input-passes chart rule marks scratch e z .of-chart in
         let f = loops.loop-next chart refl a (x .answer) in
         accepted-only chart (part-zero (acceptedTable chart) f w)
 
@@ -65,13 +63,13 @@ module _ (chart rule marks scratch : List ℕ) {r : Outcome}
       where
         turn : (b : Bool) → eqb (o .number) 0 ≡ b → new ≡ cond b (marksOf chart rule ++ drop (nodeCount rule * n) marks) marks
         turn true f =
-            marks-written chart rule some-states marks new (passes chart rule marks scratch e z .table) (x .size)
+            marks-written chart rule some-states marks new (input-passes chart rule marks scratch e z .table) (x .size)
             (x .rows (eqb-true _ _ f)) (x .rest)
         turn false f = x .refused (eqb-false _ _ f)
 
     -- row 19 answers 0 or 19
     scratch-are :
-        {zeros : List ℕ} → zeros ≡ replicate (4 * n) 0 ++ drop (4 * n) scratch → zeros ≡ scratchAfter chart (o .number) scratch
+        {zeros : List ℕ} → zeros ≡ replicate (scratchSize n) 0 ++ drop (scratchSize n) scratch → zeros ≡ scratchAfter chart (o .number) scratch
     unfolding scratchAfter
     scratch-are {zeros} f = turn (loop-number chart)
       where
@@ -80,21 +78,19 @@ module _ (chart rule marks scratch : List ℕ) {r : Outcome}
 
         turn :
             (first (loopRow chart ∷ []) .number ≡ 0) ⊎ (first (loopRow chart ∷ []) .number ≡ 19) →
-            zeros ≡ cond (eqb (o .number) 0 || eqb (o .number) 19) (replicate (4 * n) 0 ++ drop (4 * n) scratch) scratch
+            zeros ≡ cond (eqb (o .number) 0 || eqb (o .number) 19) (replicate (scratchSize n) 0 ++ drop (scratchSize n) scratch) scratch
         turn (inl w) = rw (is, w) f
         turn (inr w) = rw (is, w) f
 
     -- a byte of the marks is its row's, and the decision is right
-    tells :
-        o .number ≡ 0 → (t s : ℕ) → t < nodeCount rule → s < n →
-        Tells (getD new (t * n + s) 0) (Holds (chartOf chart) (formulaAt rule t) s)
+    tells : o .number ≡ 0 → Meaning chart rule new
     tells w t s l h =
         let φ = formulaAt rule t in
         let decided = holds-iff (chartOf chart) (accepted w) φ s (omega (arith, states-of chart)) in
         subst (λ b. Tells b (Holds (chartOf chart) φ s)) (sym (x .rows w t l s h)) (bit-tells (holds (chartOf chart) φ s) _ decided)
 
     all-checked :
-        {zeros : List ℕ} → zeros ≡ replicate (4 * n) 0 ++ drop (4 * n) scratch → Checked chart rule marks scratch o new zeros
+        {zeros : List ℕ} → zeros ≡ replicate (scratchSize n) 0 ++ drop (scratchSize n) scratch → Checked chart rule marks scratch o new zeros
     all-checked f =
         record {
           answer = loop-next chart rule marks scratch e z (x .answer);
@@ -103,11 +99,12 @@ module _ (chart rule marks scratch : List ℕ) {r : Outcome}
           meaning = tells;
         }
 
-  -- the same for a count n that was read
+  -- the same for counts that were read
   pub judged-checked :
-      r .number ≡ 0 → {n : ℕ} → n ≡ stateCount chart → {o : Outcome} {new zeros : List ℕ} → Judged chart n rule o marks new →
-      zeros ≡ replicate (4 * n) 0 ++ drop (4 * n) scratch → Checked chart rule marks scratch o new zeros
-  judged-checked z en {o} {new} {zeros} =
-      subst
-      (λ n. Judged chart n rule o marks new → zeros ≡ replicate (4 * n) 0 ++ drop (4 * n) scratch → Checked chart rule marks scratch o new zeros)
-      (sym en) (λ x f. all-checked z x f)
+      r .number ≡ 0 → {n size : ℕ} → n ≡ stateCount chart → size ≡ scratchSize n →
+      {o : Outcome} {new zeros : List ℕ} → Judged chart n rule o marks new →
+      zeros ≡ replicate size 0 ++ drop size scratch → Checked chart rule marks scratch o new zeros
+  judged-checked z {n} {size} en es {o} {new} {zeros} x f =
+      let all : size ≡ scratchSize (stateCount chart) = es ∙ ap scratchSize en in
+      all-checked z (subst (λ k. Judged chart k rule o marks new) en x)
+      (subst (λ k. zeros ≡ replicate k 0 ++ drop k scratch) all f)

@@ -3,3 +3,4 @@ pub mod Ready
 pub mod Marks
 pub mod Scratch
 pub mod Answers
+pub mod Promise

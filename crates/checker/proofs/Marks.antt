@@ -19,6 +19,18 @@ use Rattle.rule.specs.Formula.{formulaAt}
 use Rattle.nodes.specs.Parts.{Right}
 use Rattle.checker.specs.Check.{marksOf, Tells}
 
+-- past a new front the old list stands
+pub past-front :
+    (front old : List ℕ) (size : ℕ) → length front ≡ size → (j : ℕ) → size ≤ j →
+    getD (front ++ drop size old) j 0 ≡ getD old j 0
+past-front front old size e j l =
+    let there : j ≡ length front + (j - size) = omega arith in
+    let back : size + (j - size) ≡ j = omega arith in
+    ap (λ x. getD (front ++ drop size old) x 0) there ∙
+    getD-append-add front (drop size old) (j - size) 0 ∙
+    getD-drop size old (j - size) 0 ∙
+    ap (λ x. getD old x 0) back
+
 module _ (chart rule : List ℕ) where
   abbrev n : ℕ
   n = stateCount chart
@@ -26,7 +38,7 @@ module _ (chart rule : List ℕ) where
   abbrev size : ℕ
   size = nodeCount rule * n
 
-  marks-length : length (marksOf chart rule) ≡ size
+  pub marks-length : length (marksOf chart rule) ≡ size
   unfolding marksOf
   marks-length = length-tabulate size _
 
@@ -63,12 +75,7 @@ module _ (chart rule : List ℕ) where
           marks-at p new rows j l ∙ sym (List·getD-append marks (drop size old) 0 j (omega (arith, marks-length)))
       turn j true e =
           let l = leb-true size j e in
-          let i : length marks + (j - size) ≡ j = omega (arith, marks-length) in
-          rest j l ∙
-          ap (λ x. getD old x 0) (omega arith) ∙
-          sym (getD-drop size old (j - size) 0) ∙
-          sym (getD-append-add marks (drop size old) (j - size) 0) ∙
-          ap (λ x. getD (marks ++ drop size old) x 0) i
+          rest j l ∙ sym (past-front marks old size marks-length j l)
 
 -- a mark tells what a decision decides
 pub bit-tells : (b : Bool) (claim : Type 0) → ((b ≡ true) ↔ claim) → Tells (bit b) claim

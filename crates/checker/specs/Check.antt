@@ -1,7 +1,7 @@
 -- The call check. The quoted sentences are of 01, "Calls" and "Refused with number and place".
 use mathlib.Core.Path.{_≡_}
 use mathlib.Core.Logic.{_↔_}
-use mathlib.Core.Bool.{Bool, cond, _||_}
+use mathlib.Core.Bool.{cond, _||_}
 use mathlib.Core.List.{List, [], _∷_, _++_}
 use Prim.Native.Nat.{ℕ, _+_, _*_, _<_, _/_, _%_}
 use lib.ListN.{length, getD, drop, replicate}
@@ -19,22 +19,30 @@ use Rattle.rule.specs.Refusals.{ruleTable}
 use Rattle.rule.specs.Formula.{formulaAt}
 use Rattle.loops.specs.Refusal.{loopRow}
 
-module _ (chart rule marks scratch : List ℕ) where
-  -- "Check tests in number order"
-  unfoldable pub checkTable : List Row
-  checkTable =
-      chartTable chart ++
-      ruleTable rule ++
-      -- marks table under k × n bytes
-      refuse 17 (whole (ltb (length marks) (nodeCount rule * stateCount chart))) ∷
-      -- scratch under 4n numbers
-      refuse 18 (whole (ltb (length scratch) (4 * stateCount chart))) ∷
-      -- a loop of arrows whose fewest are all 0
-      loopRow chart ∷
-      []
+-- "4n numbers": how many are asked for, and cleared, for n states
+abbrev pub scratchSize : ℕ → ℕ
+scratchSize n = 4 * n
 
-  abbrev pub checkRefusal : Outcome
-  checkRefusal = first checkTable
+-- rows 17 and 18, for n states and k nodes
+abbrev pub roomTable : ℕ → ℕ → List ℕ → List ℕ → List Row
+roomTable n k marks scratch =
+    -- marks table under k × n bytes
+    refuse 17 (whole (ltb (length marks) (k * n))) ∷
+    -- scratch under 4n numbers
+    refuse 18 (whole (ltb (length scratch) (scratchSize n))) ∷
+    []
+
+-- "Check tests in number order": the chart's rows, the rule's, those of the room lent, and 19
+unfoldable pub checkTable : List ℕ → List ℕ → List ℕ → List ℕ → List Row
+checkTable chart rule marks scratch =
+    chartTable chart ++
+    ruleTable rule ++
+    roomTable (stateCount chart) (nodeCount rule) marks scratch ++
+    loopRow chart ∷
+    []
+
+abbrev pub checkRefusal : List ℕ → List ℕ → List ℕ → List ℕ → Outcome
+checkRefusal chart rule marks scratch = first (checkTable chart rule marks scratch)
 
 module _ (chart rule : List ℕ) where
   -- "byte t × n + s is 1 if node t holds at state s, else 0, for the first k × n bytes"
@@ -52,7 +60,7 @@ module _ (chart rule : List ℕ) where
 -- as lent."
 unfoldable pub scratchAfter : List ℕ → ℕ → List ℕ → List ℕ
 scratchAfter chart number scratch =
-    let zeros = 4 * stateCount chart in
+    let zeros = scratchSize (stateCount chart) in
     cond (eqb number 0 || eqb number 19) (replicate zeros 0 ++ drop zeros scratch) scratch
 
 -- a byte is 1 just where the claim is true, and 0 just where it is not
@@ -60,12 +68,15 @@ pub record Tells (byte : ℕ) (claim : Type 0) : Type 0 where
   pub yes : (byte ≡ 1) ↔ claim
   pub no : (byte ≡ 0) ↔ ¬ claim
 
+-- byte t × n + s of the marks tells whether node t holds at state s, for every node and every state
+abbrev pub Meaning : List ℕ → List ℕ → List ℕ → Type 0
+Meaning chart rule marks =
+    (t s : ℕ) → t < nodeCount rule → s < stateCount chart →
+    Tells (getD marks (t * stateCount chart + s) 0) (Holds (chartOf chart) (formulaAt rule t) s)
+
 -- all that check promises: its answer r, and the marks and the scratch afterwards
 pub record Checked (chart rule marks scratch : List ℕ) (r : Outcome) (newMarks newScratch : List ℕ) : Type 0 where
   pub answer : r ≡ checkRefusal chart rule marks scratch
   pub written : newMarks ≡ marksAfter chart rule (r .number) marks
   pub cleared : newScratch ≡ scratchAfter chart (r .number) scratch
-  -- the marks of an accepted chart and rule tell where each node holds
-  pub meaning :
-      r .number ≡ 0 → (t s : ℕ) → t < nodeCount rule → s < stateCount chart →
-      Tells (getD newMarks (t * stateCount chart + s) 0) (Holds (chartOf chart) (formulaAt rule t) s)
+  pub meaning : r .number ≡ 0 → Meaning chart rule newMarks

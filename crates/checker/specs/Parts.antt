@@ -3,20 +3,21 @@ use mathlib.Core.Path.{_≡_}
 use mathlib.Core.List.{List, [], _∷_, _++_}
 use Prim.Native.Nat.{ℕ, _*_, _≤_, _<_}
 use lib.ListN.{length, getD}
-use lib.Dec.{ltb}
 use Rattle.outcome.specs.declared.Outcome.{Outcome}
-use Rattle.outcome.specs.Refusal.{Row, refuse, whole, first}
+use Rattle.outcome.specs.Refusal.{Row, first}
+use Rattle.chart.specs.Bytes.{stateCount}
 use Rattle.chart.specs.Refusals.{chartTable}
 use Rattle.chart.specs.Shape.{Passed}
 use Rattle.rule.specs.Bytes.{nodeCount}
 use Rattle.rule.specs.Refusals.{ruleTable, ruleRefusal}
 use Rattle.loops.specs.Refusal.{loopRow}
 use Rattle.nodes.specs.Parts.{Right}
+use Rattle.checker.specs.Check.{roomTable}
 
--- rows 17 and 18, for n states and k nodes
-abbrev pub roomRows : ℕ → ℕ → List ℕ → List ℕ → List Row
-roomRows n k marks scratch =
-    refuse 17 (whole (ltb (length marks) (k * n))) ∷ refuse 18 (whole (ltb (length scratch) (4 * n))) ∷ []
+-- rows 1 to 18
+abbrev pub inputTable : List ℕ → List ℕ → List ℕ → List ℕ → List Row
+inputTable chart rule marks scratch =
+    chartTable chart ++ ruleTable rule ++ roomTable (stateCount chart) (nodeCount rule) marks scratch
 
 -- a chart that passes checks 1 to 9, a rule that passes 10 to 16, room for their marks, and a number for each state
 pub record Ready (chart : List ℕ) (n m : ℕ) (rule : List ℕ) (k : ℕ) (marks numbers : List ℕ) : Type 0 where

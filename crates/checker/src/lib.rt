@@ -1,26 +1,28 @@
 // The call check.
 ghost use mathlib.Core.Path.{_≡_};
-ghost use mathlib.Core.List.{_++_};
-ghost use Prim.Native.Nat.{_*_, _≤_};
-ghost use lib.ListN.{length};
+ghost use Prim.Native.Nat.{_≤_};
 ghost use Rattle.outcome.specs.Refusal.{first};
-ghost use Rattle.chart.specs.Bytes.{stateCount};
-ghost use Rattle.chart.specs.Refusals.{chartTable};
-ghost use Rattle.rule.specs.Bytes.{nodeCount};
-ghost use Rattle.rule.specs.Refusals.{ruleTable};
-ghost use Rattle.checker.specs.Check.{Checked};
-ghost use Rattle.checker.specs.Parts.{roomRows, Ready, Judged};
+ghost use Rattle.checker.specs.Check.{scratchSize, roomTable, Checked};
+ghost use Rattle.checker.specs.Parts.{inputTable, Ready, Judged};
 use outcome::Outcome;
+
+// How many numbers are asked for, and cleared, for n states.
+fn scratch_size(n: usize) -> usize
+    requires { ⌜ n ≤ 256 ⌝ }
+    ensures { λ r. ⌜ r ≡ scratchSize n ⌝ }
+{
+    4 * n
+}
 
 // Rows 17 and 18.
 fn room_refusal(n: usize, k: usize, marks: &[u8], scratch: &[u32]) -> Outcome
     requires { ⌜ (n ≤ 256) × (k ≤ 64) ⌝ }
-    ensures { λ r. ⌜ r ≡ first (roomRows n k (now (marks .entry)) (now (scratch .entry))) ⌝ }
+    ensures { λ r. ⌜ r ≡ first (roomTable n k (now (marks .entry)) (now (scratch .entry))) ⌝ }
 {
     if marks.len() < k * n {
         return outcome::refused(17, 0);
     }
-    if scratch.len() < 4 * n {
+    if scratch.len() < scratch_size(n) {
         return outcome::refused(18, 0);
     }
     outcome::accepted()
@@ -28,8 +30,8 @@ fn room_refusal(n: usize, k: usize, marks: &[u8], scratch: &[u32]) -> Outcome
 
 // Rows 1 to 18.
 fn input_refusal(chart: &[u8], rule: &[u8], marks: &[u8], scratch: &[u32]) -> Outcome
-    ensures { λ r. ⌜ r ≡ first (chartTable (now (chart .entry)) ++ ruleTable (now (rule .entry)) ++
-        roomRows (stateCount (now (chart .entry))) (nodeCount (now (rule .entry))) (now (marks .entry)) (now (scratch .entry))) ⌝ }
+    ensures { λ r. ⌜ r ≡ first (inputTable (now (chart .entry)) (now (rule .entry))
+        (now (marks .entry)) (now (scratch .entry))) ⌝ }
 {
     let of_chart = chart::refusals::chart_refusal(chart);
     if of_chart.number != 0 {
@@ -64,14 +66,15 @@ fn judged(
     if loops.number != 0 {
         return loops;
     }
-    settle::settle(chart, n, m, rule, k - 1, marks, numbers);
+    let last = k - 1;
+    settle::settle(chart, n, m, rule, last, marks, numbers);
     loops
 }
 
 // Number and place of the first row that is met; on acceptance the marks of every node at every state.
 pub fn check(chart: &[u8], rule: &[u8], marks: &mut [u8], scratch: &mut [u32]) -> Outcome
-    ensures { λ r. ⌜ Checked (now (chart .entry)) (now (rule .entry)) (now (marks .entry)) (now (scratch .entry)) r
-        (now (marks .exit)) (now (scratch .exit)) ⌝ }
+    ensures { λ r. ⌜ Checked (now (chart .entry)) (now (rule .entry)) (now (marks .entry)) (now (scratch .entry))
+        r (now (marks .exit)) (now (scratch .exit)) ⌝ }
 {
     let input = input_refusal(chart, rule, marks, scratch);
     if input.number != 0 {
@@ -81,7 +84,7 @@ pub fn check(chart: &[u8], rule: &[u8], marks: &mut [u8], scratch: &mut [u32]) -
     let m = chart::arrow_count(chart);
     let k = rule::node_count(rule);
     let outcome = judged(chart, n, m, rule, k, marks, &mut scratch[..n]);
-    let zeros = 4 * n;
+    let zeros = scratch_size(n);
     loops::clear(&mut scratch[..zeros]);
     outcome
 }

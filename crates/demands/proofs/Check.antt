@@ -1,84 +1,108 @@
--- Check: the marks it leaves tell the meaning, and it accepts just what is acceptable.
-use mathlib.Core.Path.{_≡_, sym, ap, subst}
-use mathlib.Core.Logic.{_↔_, Iff·rfl, Iff·symm, Iff·trans, Iff·and}
+-- Check: the first demand and the second, from its promise alone.
+use mathlib.Core.Path.{_≡_, sym, ap, subst, _∙_}
+use mathlib.Core.Logic.{_↔_, _⊎_, inl, inr, Iff·symm, Iff·trans, by-cases}
 use mathlib.Core.List.{List, [], _∷_, _++_}
-use Prim.Native.Nat.{ℕ, _*_, _<_}
-use lib.ListN.{length}
-use lib.Dec.{ltb}
-use borrow.Author.Tests.{ltb-false, le-ltb}
-use Rattle.outcome.specs.declared.Outcome.{Outcome}
-use Rattle.outcome.specs.Refusal.{Row, refuse, refusal, whole, success}
-use Rattle.outcome.proofs.Place.{whole-none}
-use Rattle.outcome.proofs.First.{Unmet, Numbered, FirstMet, success-iff, first-iff}
-use Rattle.outcome.proofs.Unmet.{unmet-more, unmet-row, unmet-append-iff}
+use Prim.Native.Nat.{ℕ, _*_, _≤_, _<_}
+use native.Mathlib.Decide.{ℕ-discrete}
+use native.Mathlib.Omega.{arith}
+use lib.ListN.{getD, drop, replicate, length-replicate, getD-replicate, List·getD-append}
+use Rattle.outcome.specs.Refusal.{Row, success, refusal}
+use Rattle.outcome.specs.Met.{Unmet, FirstMet}
+use Rattle.outcome.proofs.First.{success-iff, first-iff}
+use Rattle.outcome.proofs.Unmet.{unmet-append-iff}
 use Rattle.chart.specs.Bytes.{stateCount}
 use Rattle.chart.specs.Refusals.{chartTable}
 use Rattle.rule.specs.Bytes.{nodeCount}
-use Rattle.rule.specs.Refusals.{ruleTable}
-use Rattle.loops.specs.Refusal.{loopRow, acceptedTable}
+use Rattle.rule.specs.Refusals.{ruleTable, ruleRefusal}
 use Rattle.loops.specs.Accepted.{AcceptedChart}
+use Rattle.loops.specs.Refusal.{loopRow, acceptedTable}
 use Rattle.loops.proofs.Accepted.{unmet-iff}
-use Rattle.checker.specs.Check.{checkTable, checkRefusal, Checked}
-use Rattle.demands.specs.SecondDemand.{SecondDemand, Acceptable}
+use Rattle.checker.specs.Check.{scratchSize, checkTable, checkRefusal, marksOf}
+use Rattle.checker.specs.Parts.{inputTable}
+use Rattle.checker.proofs.Chain.{check-numbered, input-iff, check-iff, room-iff}
+use Rattle.checker.proofs.Marks.{past-front, marks-length}
+use Rattle.checker.proofs.Promise.{accepted-marks, refused-marks, cleared-scratch, refused-scratch}
+use Rattle.demands.specs.FirstDemand.{Acceptable, FirstDemand}
+use Rattle.demands.specs.SecondDemand.{SecondDemand}
 
 -- the meaning is a part of check's promise
 pub check-means : SecondDemand
 check-means chart rule marks scratch r newMarks newScratch c = c .meaning
 
+-- the rows of the chart and row 19 ask that the chart be accepted
+chart-iff : (chart : List ℕ) → (Unmet (chartTable chart) × Unmet (loopRow chart ∷ [])) ↔ AcceptedChart chart
+unfolding acceptedTable
+chart-iff chart = Iff·trans (Iff·symm (unmet-append-iff (chartTable chart) (loopRow chart ∷ []))) (unmet-iff chart)
+
+-- those of the rule that it be
+rule-iff : (rule : List ℕ) → (ruleRefusal rule ≡ success) ↔ Unmet (ruleTable rule)
+unfolding ruleTable
+rule-iff rule = success-iff (ruleTable rule) tt
+
 module _ (chart rule marks scratch : List ℕ) where
-  -- check answers a number just where its row is met and none before it is
-  pub check-refuses :
-      {r : Outcome} {newMarks newScratch : List ℕ} → Checked chart rule marks scratch r newMarks newScratch →
-      (n p : ℕ) → 0 < n → (r ≡ refusal n p) ↔ FirstMet (checkTable chart rule marks scratch) n p
-  check-refuses c n p l =
-      subst (λ o. (o ≡ refusal n p) ↔ FirstMet (checkTable chart rule marks scratch) n p) (sym (c .answer))
-      (first-iff (checkTable chart rule marks scratch) n p l)
-
-  abbrev rooms : List Row
-  rooms =
-      refuse 17 (whole (ltb (length marks) (nodeCount rule * stateCount chart))) ∷
-      refuse 18 (whole (ltb (length scratch) (4 * stateCount chart))) ∷
-      loopRow chart ∷
-      []
-
-  -- the chart's rows and row 19, the rule's rows, and the two of the room
-  parts-iff :
-      Unmet (checkTable chart rule marks scratch) ↔
-      ((Unmet (chartTable chart) × Unmet (ruleTable rule)) × Unmet rooms)
-  unfolding checkTable
-  parts-iff =
-      Iff·trans (unmet-append-iff (chartTable chart ++ ruleTable rule) rooms)
-      (Iff·and (unmet-append-iff (chartTable chart) (ruleTable rule)) Iff·rfl)
-
-  chart-iff : (Unmet (chartTable chart) × Unmet (loopRow chart ∷ [])) ↔ AcceptedChart chart
-  unfolding acceptedTable
-  chart-iff =
-      Iff·trans (Iff·symm (unmet-append-iff (chartTable chart) (loopRow chart ∷ []))) (unmet-iff chart)
-
-  numbered : Numbered (checkTable chart rule marks scratch) × Numbered (ruleTable rule)
-  unfolding checkTable chartTable ruleTable loopRow
-  numbered = (tt, tt)
-
-  -- Part by part: the rows of the chart and row 19 ask that the chart be accepted, those of the rule that it be, and 17
-  -- and 18 that there be room.
+  -- Part by part: no row is met just where the chart is accepted, the rule is, and there is room.
   pub check-accepts : (checkRefusal chart rule marks scratch ≡ success) ↔ Acceptable chart rule marks scratch
-  check-accepts = (there, back)
+  check-accepts =
+      Iff·trans (success-iff (checkTable chart rule marks scratch) (check-numbered chart rule marks scratch))
+      (Iff·trans (check-iff chart rule marks scratch) (there, back))
     where
-      there : checkRefusal chart rule marks scratch ≡ success → Acceptable chart rule marks scratch
-      there e =
-          let parts = parts-iff .0 (success-iff (checkTable chart rule marks scratch) (numbered .0) .0 e) in
-          let table = unmet-row (parts .1) in
-          let room = unmet-row (table .1) in
+      there : Unmet (inputTable chart rule marks scratch) × Unmet (loopRow chart ∷ []) → Acceptable chart rule marks scratch
+      there u =
+          let parts = input-iff chart rule marks scratch .0 (u .0) in
+          let room = room-iff chart rule marks scratch .0 (parts .1) in
           record {
-            chart-accepted = chart-iff .0 (parts .0 .0, room .1);
-            rule-accepted = success-iff (ruleTable rule) (numbered .1) .1 (parts .0 .1);
-            table = ltb-false _ _ (whole-none _ (table .0));
-            room = ltb-false _ _ (whole-none _ (room .0));
+            chart-accepted = chart-iff chart .0 (parts .0 .0, u .1);
+            rule-accepted = rule-iff rule .1 (parts .0 .1);
+            table = room .0;
+            room = room .1;
           }
 
-      back : Acceptable chart rule marks scratch → checkRefusal chart rule marks scratch ≡ success
+      back : Acceptable chart rule marks scratch → Unmet (inputTable chart rule marks scratch) × Unmet (loopRow chart ∷ [])
       back a =
-          let charts = chart-iff .1 (a .chart-accepted) in
-          let rules = success-iff (ruleTable rule) (numbered .1) .0 (a .rule-accepted) in
-          let rows = unmet-more (ap whole (le-ltb _ _ (a .table))) (unmet-more (ap whole (le-ltb _ _ (a .room))) (charts .1)) in
-          success-iff (checkTable chart rule marks scratch) (numbered .0) .1 (parts-iff .1 ((charts .0, rules), rows))
+          let charts = chart-iff chart .1 (a .chart-accepted) in
+          let room = room-iff chart rule marks scratch .1 (a .table, a .room) in
+          (input-iff chart rule marks scratch .1 ((charts .0, rule-iff rule .0 (a .rule-accepted)), room), charts .1)
+
+-- The answer is the table's first row that is met, and what is left is as the promise says, case by case.
+pub check-unbroken : FirstDemand
+check-unbroken chart rule marks scratch r newMarks newScratch c =
+    record {
+      refuses = λ n p l.
+          subst (λ o. (o ≡ refusal n p) ↔ FirstMet table n p) (sym (c .answer)) (first-iff table n p l);
+      accepts =
+          subst (λ o. (o ≡ success) ↔ Acceptable chart rule marks scratch) (sym (c .answer))
+          (check-accepts chart rule marks scratch);
+      later-kept = λ j l.
+          by-cases (ℕ-discrete (r .number) 0)
+          (λ z. ap (λ m. getD m j 0) (accepted-marks c z) ∙
+          past-front (marksOf chart rule) marks kn (marks-length chart rule) j l)
+          (λ h. ap (λ m. getD m j 0) (refused-marks c h));
+      marks-kept = refused-marks c;
+      cleared = λ w i l. ap (λ m. getD m i 0) (cleared-scratch c w) ∙ zero-at i l;
+      beyond = λ i l.
+          by-cases (ℕ-discrete (r .number) 0)
+          (λ z. past (inl z) i l)
+          (λ h. by-cases (ℕ-discrete (r .number) 19)
+          (λ z. past (inr z) i l)
+          (λ k. ap (λ m. getD m i 0) (refused-scratch c h k)));
+      scratch-kept = refused-scratch c;
+    }
+  where
+    table : List Row
+    table = checkTable chart rule marks scratch
+
+    kn : ℕ
+    kn = nodeCount rule * stateCount chart
+
+    size : ℕ
+    size = scratchSize (stateCount chart)
+
+    zero-at : (i : ℕ) → i < size → getD (replicate size 0 ++ drop size scratch) i 0 ≡ 0
+    zero-at i l =
+        List·getD-append (replicate size 0) (drop size scratch) 0 i (omega (arith, length-replicate {A = ℕ} size 0)) ∙
+        getD-replicate size i 0 0 l
+
+    past : (r .number ≡ 0) ⊎ (r .number ≡ 19) → (i : ℕ) → size ≤ i → getD newScratch i 0 ≡ getD scratch i 0
+    past w i l =
+        ap (λ m. getD m i 0) (cleared-scratch c w) ∙
+        past-front (replicate size 0) scratch size (length-replicate {A = ℕ} size 0) i l

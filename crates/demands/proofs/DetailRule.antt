@@ -1,5 +1,5 @@
 -- The detail rule: where its premises hold, a rule carries as its kinds say, in the meaning and in the bytes.
-use mathlib.Core.Path.{_≡_, subst}
+use mathlib.Core.Path.{_≡_, ap, subst}
 use mathlib.Core.Logic.{_↔_}
 use mathlib.Core.Bool.{true}
 use mathlib.Core.List.{List}
@@ -10,6 +10,7 @@ use Rattle.tctl.specs.Kind.{Runs, allRuns, someRun, isOf}
 use Rattle.tctl.specs.Detail.{Carries}
 use Rattle.tctl.proofs.Drawn.{accepted-drawn}
 use Rattle.tctl.proofs.Simulation.{carries}
+use Rattle.outcome.specs.declared.Outcome.{Outcome}
 use Rattle.chart.specs.Bytes.{stateCount, chartOf}
 use Rattle.chart.proofs.Chart.{states-of}
 use Rattle.rule.specs.Bytes.{nodeCount}
@@ -17,7 +18,8 @@ use Rattle.rule.specs.Formula.{formulaOf}
 use Rattle.rule.specs.Refusals.{ruleRefusal}
 use Rattle.rule.proofs.Accepted.{accepted}
 use Rattle.detail.specs.Bytes.{entry}
-use Rattle.demands.specs.DetailRule.{Accepts, Marked, ThirdDemand}
+use Rattle.demands.specs.DetailRule.{Premises, Accepts, Marked, ThirdDemand}
+use Rattle.demands.proofs.MapCheck.{map-check-exact}
 
 -- what is true at the same states as what carries, carries
 carries-same :
@@ -36,12 +38,18 @@ marked-iff chart rule newMarks ok a s l =
     let tells = a .checked .meaning (a .accepted) (nodeCount rule - 1) s (omega arith) l .yes in
     (tells .1, tells .0)
 
--- The detail's chart is drawn, and is a detail of the overview's by the map's entries: along these each formula of a
+-- Map check accepts where the premises hold. The detail's chart is drawn, and is a detail of the overview's by the map's entries: along these each formula of a
 -- kind carries. For the meaning no more is needed of the rule than the formula that its bytes stand for. The bytes of
 -- either chart tell where the formula holds, so what carries for the meaning carries for them.
 pub detail-rule : ThirdDemand
-detail-rule d o p r prem ok = record { meaning = meaning; bytes = bytes }
+detail-rule d o p r mapped passed = record { meaning = meaning; bytes = bytes }
   where
+    prem : Premises d o p
+    prem = map-check-exact d o p .0 mapped
+
+    ok : ruleRefusal r .number ≡ 0
+    ok = ap (λ (x : Outcome). x .number) passed
+
     meaning :
         (k : Runs) → isOf k (formulaOf r) ≡ true →
         Carries k (stateCount d) (entry p) (Holds (chartOf o) (formulaOf r)) (Holds (chartOf d) (formulaOf r))

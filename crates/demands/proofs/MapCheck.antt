@@ -4,7 +4,8 @@ use mathlib.Core.Logic.{_↔_, Iff·rfl, Iff·symm, Iff·trans, Iff·and}
 use mathlib.Core.List.{List, _++_}
 use Prim.Native.Nat.{ℕ}
 use Rattle.outcome.specs.Refusal.{success, shifted}
-use Rattle.outcome.proofs.First.{Unmet, Numbered, success-iff}
+use Rattle.outcome.specs.Met.{Unmet}
+use Rattle.outcome.proofs.First.{Numbered, success-iff}
 use Rattle.outcome.proofs.Unmet.{unmet-append-iff}
 use Rattle.outcome.proofs.Shift.{shift-unmet-iff}
 use Rattle.chart.specs.Refusals.{chartTable}

@@ -8,12 +8,14 @@ use Rattle.tctl.specs.Holds.{Holds}
 use Rattle.tctl.specs.Kind.{Runs, isOf}
 use Rattle.tctl.specs.Detail.{Detail, Carries}
 use Rattle.outcome.specs.declared.Outcome.{Outcome}
+use Rattle.outcome.specs.Refusal.{success}
 use Rattle.chart.specs.Bytes.{stateCount, chartOf}
 use Rattle.rule.specs.Bytes.{nodeCount}
 use Rattle.rule.specs.Formula.{formulaOf}
 use Rattle.rule.specs.Refusals.{ruleRefusal}
 use Rattle.loops.specs.Accepted.{AcceptedChart}
 use Rattle.detail.specs.Bytes.{entry, MapFormat}
+use Rattle.detail.specs.Refusals.{mapRefusal}
 use Rattle.checker.specs.Check.{Checked}
 
 -- what the detail rule asks of a detail chart d, an overview o and a map p: both charts accepted, the map in its
@@ -51,6 +53,6 @@ pub record DetailRule (d o p r : List ℕ) : Type 0 where
       (over under : List ℕ) → Accepts o r over → Accepts d r under →
       Carries k (stateCount d) (entry p) (Marked o r over) (Marked d r under)
 
--- "one claim, for every two charts, map and rule that meet its premises"
+-- "one claim, for every two charts, map and rule that meet its premises": that map check and the rule's checks accept
 abbrev pub ThirdDemand : Type 0
-ThirdDemand = (d o p r : List ℕ) → Premises d o p → ruleRefusal r .number ≡ 0 → DetailRule d o p r
+ThirdDemand = (d o p r : List ℕ) → mapRefusal d o p ≡ success → ruleRefusal r ≡ success → DetailRule d o p r

@@ -1,4 +1,4 @@
-// The desk program, on the chart Short.
+// The desk program; its test runs it on the chart Short.
 fn main() {
     desk_call::run();
 }

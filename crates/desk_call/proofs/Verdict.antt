@@ -1,41 +1,24 @@
 -- What the answer of the check tells of the text that is printed.
 use mathlib.Core.Path.{_≡_, ap, _∙_}
-use mathlib.Core.List.{List, _++_}
+use mathlib.Core.List.{List}
 use Prim.Native.Nat.{ℕ, _*_, _≤_, _<_}
 use native.Mathlib.Omega.{arith}
 use native.Mathlib.Nat.{mul-le-mul-left, mul-le-mul-right}
-use lib.ListN.{length, getD, drop, List·getD-append}
+use lib.ListN.{getD, List·getD-append}
 use borrow.Author.Tests.{eq-eqb, ne-eqb}
-use Rattle.tctl.proofs.Tabulate.{length-tabulate}
 use Rattle.outcome.specs.declared.Outcome.{Outcome}
-use Rattle.outcome.proofs.First.{Numbered, Unmet, zero-iff, part-zero}
-use Rattle.outcome.proofs.Unmet.{unmet-append-iff}
 use Rattle.chart.specs.Bytes.{stateCount, arrowCount}
-use Rattle.chart.specs.Refusals.{chartTable}
 use Rattle.chart.specs.Shape as chart-shape
-use Rattle.chart.proofs.Accepted as chart-accepted
+use Rattle.chart.proofs.Accepted.{well-formed}
 use Rattle.rule.specs.Bytes.{nodeCount}
-use Rattle.rule.specs.Refusals.{ruleTable}
 use Rattle.rule.specs.Shape as rule-shape
-use Rattle.rule.proofs.Accepted as rule-accepted
-use Rattle.loops.specs.Refusal.{loopRow}
-use Rattle.checker.specs.Check.{checkTable, checkRefusal, marksOf, marksAfter, Checked}
+use Rattle.rule.proofs.Accepted.{accepted}
+use Rattle.checker.specs.Check.{marksOf, Checked}
+use Rattle.checker.proofs.Marks.{marks-length}
+use Rattle.checker.proofs.Promise.{accepted-admitted, accepted-marks}
 use Rattle.listing.specs.Text.{listing, refusedLine}
 use Rattle.listing.proofs.Same.{listing-same}
 use Rattle.desk_call.specs.Printed.{lentMarks, lentScratch, textOf, printed}
-
-module _ (chart rule marks scratch : List ℕ) where
-  numbered : Numbered (checkTable chart rule marks scratch)
-  unfolding checkTable chartTable ruleTable loopRow
-  numbered = tt
-
-  -- where there is no refusal, no row of the chart's table is met, nor of the rule's
-  unmet : checkRefusal chart rule marks scratch .number ≡ 0 → Unmet (chartTable chart) × Unmet (ruleTable rule)
-  unfolding checkTable
-  unmet e =
-      let all = zero-iff (checkTable chart rule marks scratch) numbered .0 e in
-      unmet-append-iff (chartTable chart) (ruleTable rule) .0
-      (unmet-append-iff (chartTable chart ++ ruleTable rule) _ .0 all .0)
 
 module _
     (chart rule : List ℕ) {r : Outcome} {newMarks newScratch : List ℕ}
@@ -49,19 +32,12 @@ module _
         e ∙ ap (textOf chart rule) (told .answer)
 
     module _ (z : r .number ≡ 0) where
-      passed : Unmet (chartTable chart) × Unmet (ruleTable rule)
-      passed =
-          unmet chart rule lentMarks lentScratch
-          (part-zero (checkTable chart rule lentMarks lentScratch) (told .answer) z)
-
       -- the chart and the rule have the shape that was asked for
       pub chart-shaped : chart-shape.Shape chart (stateCount chart) (arrowCount chart)
-      unfolding chartTable
-      chart-shaped = chart-accepted.checked chart (zero-iff (chartTable chart) tt .1 (passed .0)) .shape
+      chart-shaped = well-formed chart (accepted-admitted told z .of-chart) .shape
 
       pub rule-shaped : rule-shape.Shape rule (nodeCount rule)
-      unfolding ruleTable
-      rule-shaped = rule-accepted.accepted rule (zero-iff (ruleTable rule) tt .1 (passed .1)) .shape
+      rule-shaped = accepted rule (accepted-admitted told z .of-rule) .shape
 
       -- 64 rows of 256 marks are enough
       pub few-marks : nodeCount rule * stateCount chart ≤ 16384
@@ -74,14 +50,9 @@ module _
 
       marks-first :
           (i : ℕ) → i < nodeCount rule * stateCount chart → getD newMarks i 0 ≡ getD (marksOf chart rule) i 0
-      unfolding marksAfter marksOf
       marks-first i l =
-          let kn = nodeCount rule * stateCount chart in
-          let size : length (marksOf chart rule) ≡ kn = length-tabulate kn _ in
-          let e : newMarks ≡ marksOf chart rule ++ drop kn lentMarks =
-          told .written ∙ rw (eq-eqb (r .number) 0 z) in
-          ap (λ (m : List ℕ). getD m i 0) e ∙
-          List·getD-append (marksOf chart rule) (drop kn lentMarks) 0 i (omega (arith, l, size))
+          ap (λ (m : List ℕ). getD m i 0) (accepted-marks told z) ∙
+          List·getD-append (marksOf chart rule) _ 0 i (omega (arith, l, marks-length chart rule))
 
       -- acceptance: the first k × n bytes are the marks, so their listing is printed
       pub listing-printed :

@@ -5,8 +5,18 @@ ghost use Rattle.io.specs.Counts.{Counts};
 ghost use Rattle.listing.specs.Text.{Shown};
 ghost use Rattle.desk_call.specs.Printed.{printed};
 
+// One byte more than the longest chart and the longest rule that are accepted.
+const CHART: usize = 16906;
+
+const RULE: usize = 520;
+
+// Marks and scratch for 256 states and 64 nodes.
+const MARKS: usize = 16384;
+
+const SCRATCH: usize = 1024;
+
 // The bytes of the longest text: 64 lines of 260 after a first line of 20.
-const ROOM: usize = 16660;
+const TEXT: usize = 16660;
 
 // The first bytes of a file, as many as there is room for. One that can't be opened counts as empty.
 fn read(name: &[u8], space: &mut [u8]) -> usize
@@ -26,8 +36,8 @@ fn report(chart: &[u8], rule: &[u8], out: &mut [u8]) -> usize
     requires { ⌜ 20 + 64 * 260 ≤ length (now out) ⌝ }
     ensures { λ r. ⌜ Shown (printed (now (chart .entry)) (now (rule .entry))) r (now (out .entry)) (now (out .exit)) ⌝ }
 {
-    let mut marks = [0; 16384];
-    let mut scratch = [0; 1024];
+    let mut marks = [0; MARKS];
+    let mut scratch = [0; SCRATCH];
     let verdict = checker::check(chart, rule, &mut marks, &mut scratch);
     if verdict.number != 0 {
         return listing::refuse(verdict.number, verdict.place, out);
@@ -37,13 +47,13 @@ fn report(chart: &[u8], rule: &[u8], out: &mut [u8]) -> usize
     listing::list(n, k, &marks, out)
 }
 
-// Each file is read for one byte more than the longest accepted, so that a longer one is refused by its length.
+// A file that is longer than any accepted is read for one byte too many, and so refused.
 pub fn run() {
-    let mut chart = [0; 16906];
-    let mut rule = [0; 520];
+    let mut chart = [0; CHART];
+    let mut rule = [0; RULE];
     let chart_size = read(b"desk.cht", &mut chart);
     let rule_size = read(b"desk.rul", &mut rule);
-    let mut text = [0; ROOM];
+    let mut text = [0; TEXT];
     let size = report(&chart[..chart_size], &rule[..rule_size], &mut text);
     io::write_all(libc::STDOUT_FILENO, &text[..size]);
 }

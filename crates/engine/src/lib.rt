@@ -158,12 +158,12 @@ fn rounds(change: Change, chart: &[u8], n: usize, m: usize, go: &[u8], numbers: 
         rounds (changeOf change (flag (now (go .entry)))) n (chartOf (now (chart .entry)) .arrows)
         (now (numbers .entry)) ⌝ }
 {
-    let mut i = 0;
-    while i < n {
+    let mut done = 0;
+    while done < n {
         if round(change, chart, n, m, go, numbers) == 0 {
             return;
         }
-        i += 1;
+        done += 1;
     }
 }
 

@@ -10,7 +10,8 @@ use borrow.Author.Tests.{ltb-false, le-ltb}
 use Rattle.outcome.specs.declared.Outcome.{Outcome}
 use Rattle.outcome.specs.Refusal.{whole, first}
 use Rattle.outcome.proofs.Place.{whole-none, none-equal, equal-none}
-use Rattle.outcome.proofs.First.{Unmet, end, Numbered, zero-iff, part-zero}
+use Rattle.outcome.specs.Met.{Unmet, end}
+use Rattle.outcome.proofs.First.{Numbered, zero-iff, part-zero}
 use Rattle.outcome.proofs.Unmet.{unmet-more, unmet-row}
 use Rattle.head.specs.Head.{version, statedLength, headRows, Headed}
 

@@ -47,7 +47,7 @@ unfolding
     leftBy lowest first
 maps-refused = refl
 
--- check's refusal is the one that is listed, whatever is lent
+-- check's refusal is the one that is listed, where so many zeros are lent
 abbrev pub check-as-listed : RefusedCheck → Bool
 check-as-listed x =
     is (checkRefusal (x .chart) (x .rule) (replicate (x .marks) 0) (replicate (x .scratch) 0)) (x .number) (x .place)

@@ -1,4 +1,4 @@
--- The column "Small input" of 01's table, rows 1 to 16 and 19 to 23, and inputs for what 01 says beside it, as "lowest
+-- The column "Small input" of 01's table, and inputs for what 01 says beside it, as "lowest
 -- state on one", "the same plus 40", "several joined don't count" and "'No end' contains every most".
 use mathlib.Core.List.{List, [], _∷_, _++_}
 use Prim.Native.Nat.{ℕ, _+_, _/_}

@@ -42,7 +42,7 @@ unfoldable pub joined : ℕ → (ℕ → List ℕ) → List ℕ
 joined zero f = []
 joined (suc k) f = joined k f ++ f k
 
--- a mark, "each 1 or 0"
+-- a mark: 1 for a byte that is 1, else 0
 abbrev pub mark : ℕ → ℕ
 mark byte = cond (eqb byte 1) 49 48
 

@@ -17,15 +17,16 @@ use Rattle.model.specs.ZeroLoop.{onZeroLoop}
 use Rattle.model.proofs.ZeroLoop.{on-zero-loop-iff}
 use Rattle.outcome.specs.declared.Outcome.{Outcome}
 use Rattle.outcome.specs.Refusal.{success, lowest}
-use Rattle.outcome.proofs.First.{Unmet, end, Numbered, zero-iff, success-iff}
+use Rattle.outcome.specs.Met.{Unmet, end}
+use Rattle.outcome.proofs.First.{Numbered, zero-iff, success-iff}
 use Rattle.outcome.proofs.Unmet.{unmet-more, unmet-row, unmet-append-iff}
 use Rattle.outcome.proofs.Lowest.{none-below, below-none}
 use Rattle.chart.specs.Bytes.{stateCount, arrowCount, arrowWords, chartOf}
 use Rattle.chart.specs.Shape.{Shape, Passed}
 use Rattle.chart.specs.Refusals.{chartTable, chartRefusal}
-use Rattle.chart.proofs.Accepted.{Checked, checked, chart-accepted}
+use Rattle.chart.proofs.Accepted.{WellFormed, well-formed, chart-accepted}
 use Rattle.chart.proofs.Chart.{states-of}
-use Rattle.chart.proofs.Converse.{checked-unmet, accepted-checked}
+use Rattle.chart.proofs.Converse.{formed-unmet, accepted-formed}
 use Rattle.chart.proofs.Reading.{drawn}
 use Rattle.loops.specs.Refusal.{loopRow, acceptedTable, acceptedRefusal}
 use Rattle.loops.specs.Accepted.{ChartFormat, AcceptedChart}
@@ -54,8 +55,8 @@ module _ (s : List ℕ) where
     passed : Passed s (stateCount s) (arrowCount s)
     passed = record { states = refl; arrows = refl; unrefused = chart-passed }
 
-    ok : Checked s
-    ok = checked s chart-passed
+    ok : WellFormed s
+    ok = well-formed s chart-passed
 
     no-loops : lowest (onZeroLoop (chartOf s)) (stateCount s) ≡ none
     unfolding loopRow
@@ -121,8 +122,8 @@ module _ (s : List ℕ) where
   accepted-unmet : AcceptedChart s → Unmet (acceptedTable s)
   accepted-unmet acc =
       let f = acc .format in
-      let ok = accepted-checked s (acc .meaning) (f .head) (format-shape f) (f .slots) in
-      parts-iff .1 (checked-unmet s ok, loop-unmet (acc .meaning))
+      let ok = accepted-formed s (acc .meaning) (f .head) (format-shape f) (f .slots) in
+      parts-iff .1 (formed-unmet s ok, loop-unmet (acc .meaning))
 
   -- Each row is false just where its part of the format, or of the meaning, is true.
   pub accepted-iff : (acceptedRefusal s ≡ success) ↔ AcceptedChart s

@@ -10,7 +10,7 @@ use Rattle.outcome.proofs.First.{part-zero, part-refuses, part-passes}
 use Rattle.chart.specs.Bytes.{stateCount, arrowCount}
 use Rattle.chart.specs.Refusals.{chartTable, chartRefusal}
 use Rattle.chart.specs.Shape.{Passed}
-use Rattle.chart.proofs.Accepted.{checked}
+use Rattle.chart.proofs.Accepted.{well-formed}
 use Rattle.loops.specs.Refusal.{loopRow, acceptedTable, acceptedRefusal}
 
 pub prefix-size : (n : ℕ) (l : List ℕ) → n ≤ length l → length (take n l) ≡ n
@@ -23,10 +23,10 @@ module _ (s : List ℕ) {r : Outcome} (e : r ≡ chartRefusal s) where
 
   module _ (z : r .number ≡ 0) where
     pub chart-whole : 9 ≤ length s
-    chart-whole = omega (arith, checked s (part-zero (chartTable s) e z) .shape .whole)
+    chart-whole = omega (arith, well-formed s (part-zero (chartTable s) e z) .shape .whole)
 
     pub chart-small : stateCount s ≤ 256
-    chart-small = checked s (part-zero (chartTable s) e z) .shape .few-states
+    chart-small = well-formed s (part-zero (chartTable s) e z) .shape .few-states
 
     pub chart-counted : {n m : ℕ} → n ≡ stateCount s → m ≡ arrowCount s → Passed s n m
     chart-counted a b = record { states = a; arrows = b; unrefused = part-zero (chartTable s) e z }

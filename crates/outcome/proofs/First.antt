@@ -7,11 +7,7 @@ use Prim.Native.Nat.{ℕ, zero, suc, _<_}
 use native.Mathlib.Omega.{arith}
 use Rattle.outcome.specs.declared.Outcome.{Outcome}
 use Rattle.outcome.specs.Refusal.{Row, refuse, first, refusal, success}
-
--- no row is met
-pub data Unmet : List Row → Type 0 where
-  end : Unmet []
-  passed : (n : ℕ) {rows : List Row} → Unmet rows → Unmet (refuse n none ∷ rows)
+use Rattle.outcome.specs.Met.{Unmet, end, passed, FirstMet}
 
 -- no row has the number of success
 abbrev pub Numbered : List Row → Type 0
@@ -68,13 +64,6 @@ pub part-passes :
     (xs ys : List Row) {r x : Outcome} → Numbered xs → r ≡ first xs → r .number ≡ 0 → x ≡ first ys →
     x ≡ first (xs ++ ys)
 part-passes xs ys h e z f = f ∙ sym (append-zero xs ys h (part-zero xs e z))
-
--- the row with this number has this place, and no row before it is met
-pub record FirstMet (rows : List Row) (n p : ℕ) : Type 0 where
-  pub before : List Row
-  pub after : List Row
-  pub split : rows ≡ before ++ refuse n (some p) ∷ after
-  pub unmet : Unmet before
 
 unmet-first : (ys : List Row) {xs : List Row} → Unmet xs → first (xs ++ ys) ≡ first ys
 unfolding first

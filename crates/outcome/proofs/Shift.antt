@@ -7,7 +7,8 @@ use Prim.Native.Nat.{ℕ, zero, suc, _+_}
 use native.Mathlib.Omega.{arith}
 use Rattle.outcome.specs.declared.Outcome.{Outcome}
 use Rattle.outcome.specs.Refusal.{Row, refuse, refusal, success, first, shifted}
-use Rattle.outcome.proofs.First.{Numbered, Unmet, end, passed, zero-iff, success-iff, part-zero}
+use Rattle.outcome.specs.Met.{Unmet, end, passed}
+use Rattle.outcome.proofs.First.{Numbered, zero-iff, success-iff, part-zero}
 use Rattle.outcome.proofs.Unmet.{unmet-more, unmet-row}
 
 -- no number becomes that of success

@@ -6,7 +6,7 @@ use mathlib.Core.Option.{Option, none, some}
 use Prim.Native.Nat.{ℕ}
 use Rattle.outcome.specs.Refusal.{Row, refuse}
 use Rattle.outcome.proofs.Place.{none≢some}
-use Rattle.outcome.proofs.First.{Unmet, end, passed}
+use Rattle.outcome.specs.Met.{Unmet, end, passed}
 
 -- one row more, whose condition is not met
 pub unmet-more : {n : ℕ} {p : Option ℕ} {rows : List Row} → p ≡ none → Unmet rows → Unmet (refuse n p ∷ rows)

@@ -1,8 +1,10 @@
 -- What an accepted rule tells: one that passes checks 10 to 16.
 use mathlib.Core.Path.{_≡_, refl, sym, ap, _∙_}
+use mathlib.Core.Logic.{by-cases}
 use mathlib.Core.Bool.{Bool, true, false, not, cond, _||_, _&&_}
 use mathlib.Core.List.{List}
 use Prim.Native.Nat.{ℕ, _-_, _≤_, _<_}
+use native.Mathlib.Decide.{decLe}
 use native.Mathlib.Omega.{arith}
 use lib.Dec.{leb, ltb, eqb}
 use borrow.Author.Tests.{ltb-false, leb-true, leb-false, le-leb, eqb-true, not-false}
@@ -37,21 +39,39 @@ accepted s e =
           eqb-true (uses s k v) 1 (not-false (eqb (uses s k v) 1) z);
     }
 
--- the form of an operation: at most 4 for the seven alone, at least 2 where a is an operand, 3 where b is
-form-of : (op : ℕ) → (formOf op ≤ 4 → op ≤ 6) × (2 ≤ op → 2 ≤ formOf op) × (3 ≤ op → 3 ≤ formOf op)
+-- an operation is one of the seven if its form is up to 4, and above 2 its form is above 2
+form-of : (op : ℕ) → (formOf op ≤ 4 → op ≤ 6) × (2 < op → 2 < formOf op) × (op ≤ 2 → formOf op ≡ op)
 unfolding formOf
 form-of op = turn (leb op 2) refl (leb op 4) refl (leb op 6) refl
   where
     turn :
         (a : Bool) → leb op 2 ≡ a → (b : Bool) → leb op 4 ≡ b → (d : Bool) → leb op 6 ≡ d →
         (cond a op (cond b 3 (cond d 4 5)) ≤ 4 → op ≤ 6) ×
-        (2 ≤ op → 2 ≤ cond a op (cond b 3 (cond d 4 5))) ×
-        (3 ≤ op → 3 ≤ cond a op (cond b 3 (cond d 4 5)))
-    turn true e b f d g =
-        (λ h. omega (arith, leb-true op 2 e), λ h. h, λ h. absurd (let z : ⊥ = omega (arith, leb-true op 2 e) in z))
-    turn false e true f d g = (λ h. omega (arith, leb-true op 4 f), λ h. omega arith, λ h. omega arith)
-    turn false e false f true g = (λ h. leb-true op 6 g, λ h. omega arith, λ h. omega arith)
-    turn false e false f false g = (λ h. absurd (let z : ⊥ = omega arith in z), λ h. omega arith, λ h. omega arith)
+        (2 < op → 2 < cond a op (cond b 3 (cond d 4 5))) ×
+        (op ≤ 2 → cond a op (cond b 3 (cond d 4 5)) ≡ op)
+    turn true e b f d g = (λ h. omega (arith, leb-true op 2 e), λ h. h, λ h. refl)
+    turn false e b f d g =
+        let high = leb-false op 2 e in
+        (known b f d g, λ h. above b d, λ h. absurd (let z : ⊥ = omega arith in z))
+      where
+        known : (b : Bool) → leb op 4 ≡ b → (d : Bool) → leb op 6 ≡ d → cond b 3 (cond d 4 5) ≤ 4 → op ≤ 6
+        known true f d g h = omega (arith, leb-true op 4 f)
+        known false f true g h = leb-true op 6 g
+        known false f false g h = absurd (let z : ⊥ = omega arith in z)
+
+        above : (b d : Bool) → 2 < cond b 3 (cond d 4 5)
+        above true d = omega arith
+        above false true = omega arith
+        above false false = omega arith
+
+-- whether a node has a left operand, 2, or a right one, 3, by its form as by its operation
+pub has-operand : (i op : ℕ) → i ≤ 3 → leb i (formOf op) ≡ leb i op
+has-operand i op h =
+    by-cases (decLe op 2)
+    (λ l. ap (leb i) (form-of op .2 l))
+    (λ l.
+    let high = form-of op .1 (omega arith) in
+    le-leb i (formOf op) (omega arith) ∙ sym (le-leb i op (omega arith)))
 
 module _ {s : List ℕ} (acc : Accepted s) (t : ℕ) (l : t < nodeCount s) where
   abbrev node : NodeWords
@@ -78,20 +98,17 @@ module _ {s : List ℕ} (acc : Accepted s) (t : ℕ) (l : t < nodeCount s) where
   unfolding formOf wrongA
   label-low e = omega (arith, ltb-false 15 (node .a) (rw e at (formed-parts .1)))
 
-  operand-lower : (least x : ℕ) → (leb least (formOf (node .operation)) && leb t x) ≡ false → least ≤ formOf (node .operation) → x < t
-  operand-lower least x e h = leb-false t x (ap (λ b. b && leb t x) (sym (le-leb _ _ h)) ∙ e)
+  operand-lower :
+      (i x : ℕ) → i ≤ 3 → (leb i form && leb t x) ≡ false → i ≤ node .operation → x < t
+  operand-lower i x h e k =
+      let used = has-operand i (node .operation) h ∙ le-leb i (node .operation) k in
+      leb-false t x (ap (λ b. b && leb t x) (sym used) ∙ e)
 
   -- its operands are lower
   pub lower-a : 2 ≤ node .operation → node .a < t
   unfolding notLower
-  lower-a h =
-      let f = formOf (node .operation) in
-      operand-lower 2 (node .a) (or-false (leb 2 f && leb t (node .a)) _ (acc .lower t l) .0)
-      (form-of (node .operation) .1 h)
+  lower-a = operand-lower 2 (node .a) (omega arith) (or-false (leb 2 form && leb t (node .a)) _ (acc .lower t l) .0)
 
   pub lower-b : 3 ≤ node .operation → node .b < t
   unfolding notLower
-  lower-b h =
-      let f = formOf (node .operation) in
-      operand-lower 3 (node .b) (or-false (leb 2 f && leb t (node .a)) _ (acc .lower t l) .1)
-      (form-of (node .operation) .2 h)
+  lower-b = operand-lower 3 (node .b) (omega arith) (or-false (leb 2 form && leb t (node .a)) _ (acc .lower t l) .1)

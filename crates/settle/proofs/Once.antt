@@ -1,16 +1,15 @@
 -- Settling the last node of an accepted rule settles every node exactly once.
-use mathlib.Core.Path.{_≡_, refl, sym, ap, _∙_}
+use mathlib.Core.Path.{_≡_, refl, ap, _∙_}
 use mathlib.Core.Bool.{Bool, true, false, cond, _&&_}
 use mathlib.Core.List.{List}
 use Prim.Native.Nat.{ℕ, zero, suc, _+_, _*_, _-_, _≤_, _<_}
 use native.Mathlib.Nat.{add-mul, zero-mul, one-mul, mul-zero}
 use native.Mathlib.Omega.{arith}
 use lib.Dec.{eqb, leb}
-use borrow.Author.Tests.{leb-true, leb-false, le-leb, eqb-true, eqb-false, ne-eqb}
+use borrow.Author.Tests.{leb-true, leb-false, eqb-true, eqb-false, ne-eqb}
 use Rattle.rule.specs.Bytes.{nodeCount, nodeWords}
-use Rattle.rule.specs.Form.{formOf}
 use Rattle.rule.specs.Refusals.{uses, usesIn, names}
-use Rattle.rule.proofs.Accepted.{Accepted, lower-a, lower-b}
+use Rattle.rule.proofs.Accepted.{Accepted, has-operand, lower-a, lower-b}
 use Rattle.settle.specs.Visits.{visits}
 use Rattle.settle.proofs.Visits.{visits-at}
 
@@ -61,23 +60,6 @@ sum-one t g (suc k) h = turn (eqb t k) refl (λ l. sum-one t g k l)
         let f = eqb-false t k e in
         omega (arith, ih (omega arith), zero-mul (g k))
 
--- whether a node has a left operand, 2, or a right one, 3, by its form as by its operation
-has : (i op : ℕ) → i ≤ 3 → leb i (formOf op) ≡ leb i op
-unfolding formOf
-has i op h = turn (leb op 2) refl (leb op 4) (leb op 6)
-  where
-    turn : (x : Bool) → leb op 2 ≡ x → (y z : Bool) → leb i (cond x op (cond y 3 (cond z 4 5))) ≡ leb i op
-    turn true e y z = refl
-    turn false e y z =
-        let l = leb-false op 2 e in
-        let high : i ≤ cond y 3 (cond z 4 5) = three-at-least y z in
-        le-leb i _ high ∙ sym (le-leb i op (omega arith))
-      where
-        three-at-least : (y z : Bool) → i ≤ cond y 3 (cond z 4 5)
-        three-at-least true z = h
-        three-at-least false true = omega arith
-        three-at-least false false = omega arith
-
 -- what an operand adds: the operand itself, and what it leads to
 operand-adds :
     (b e : Bool) (x y : ℕ) → (b ≡ true → x ≡ cond e 1 0 + y) → cond b x 0 ≡ cond (b && e) 1 0 + cond b y 0
@@ -104,7 +86,7 @@ module _ {s : List ℕ} (acc : Accepted s) where
   unfolding usesIn
   named-at u v =
       let w = nodeWords s v in
-      rw (has 2 (w .operation) (omega arith), has 3 (w .operation) (omega arith)) refl
+      rw (has-operand 2 (w .operation) (omega arith), has-operand 3 (w .operation) (omega arith)) refl
 
   -- Settling t settles u as itself, or through a node v that it settles and that names u: v is t, or an operand of t
   -- leads to it.

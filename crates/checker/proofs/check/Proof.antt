@@ -1,14 +1,15 @@
 -- Rows 1 to 18, then row 19 and the nodes on the first n numbers of scratch, of which 4n are cleared.
 use mathlib.Core.Path.{_≡_, sym, _∙_}
 use mathlib.Core.List.{List}
-use Prim.Native.Nat.{ℕ, _*_, _≤_}
+use Prim.Native.Nat.{ℕ, _≤_}
 use lib.ListN.{length}
 use native.Mathlib.Omega.{arith}
 use denote.Ref.{now}
 use Rattle.loops.proofs.Chain.{prefix-size}
-use Rattle.chart.proofs.Accepted.{checked}
+use Rattle.chart.proofs.Accepted.{well-formed}
 use Rattle.rule.proofs.Accepted.{accepted}
-use Rattle.checker.proofs.Chain.{Passes, passes}
+use Rattle.checker.specs.Check.{scratchSize}
+use Rattle.checker.proofs.Chain.{Admitted, input-passes}
 use Rattle.checker.proofs.Scratch.{used-size, used-front, cleared-front}
 use Rattle.checker.proofs.Answers.{refused-checked, judged-checked}
 use borrow.Author.Needs.{needs}
@@ -34,17 +35,17 @@ returns c =
 passed :
     (c : tie.Else1) →
     let a = c .before .before .before .before .before .before .before .before .before .args in
-    Passes (now (a .chart)) (now (a .rule)) (now (a .marks)) (now (a .scratch))
+    Admitted (now (a .chart)) (now (a .rule)) (now (a .marks)) (now (a .scratch))
 passed c =
     let a = c .before .before .before .before .before .before .before .before .before .args in
-    passes (now (a .chart)) (now (a .rule)) (now (a .marks)) (now (a .scratch))
+    input-passes (now (a .chart)) (now (a .rule)) (now (a .marks)) (now (a .scratch))
     (c .before .before .input-refusal .ensures) (c .if1 .left)
 
 state-count-requires : tie.Need-state-count-requires
-state-count-requires c κs = omega (arith, checked _ (passed c .of-chart) .shape .whole)
+state-count-requires c κs = omega (arith, well-formed _ (passed c .of-chart) .shape .whole)
 
 arrow-count-requires : tie.Need-arrow-count-requires
-arrow-count-requires c κs = omega (arith, checked _ (passed (c .before) .of-chart) .shape .whole)
+arrow-count-requires c κs = omega (arith, well-formed _ (passed (c .before) .of-chart) .shape .whole)
 
 node-count-requires : tie.Need-node-count-requires
 node-count-requires c κs = omega (arith, accepted _ (passed (c .before .before) .of-rule) .shape .whole)
@@ -52,8 +53,8 @@ node-count-requires c κs = omega (arith, accepted _ (passed (c .before .before)
 abbrev lent : tie.After-state-count → List ℕ
 lent c = now (c .before .before .before .before .before .before .before .before .before .before .args .scratch)
 
--- 4n numbers lie in the scratch lent
-inside : (c : tie.After-state-count) → 4 * c .state-count .result ≤ length (lent c)
+-- what is asked for lies in the scratch lent
+inside : (c : tie.After-state-count) → scratchSize (c .state-count .result) ≤ length (lent c)
 inside c = omega (arith, passed (c .before) .room, c .state-count .ensures .0)
 
 slice-relend-prefix-judged : tie.Need-slice-relend-prefix-judged
@@ -82,26 +83,40 @@ judged-requires c κs =
       size = prefix-size (counted .state-count .result) _ (omega (arith, inside counted));
     }
 
--- they are n still
-used : (c : tie.After-judged) → length (c .judged .last .1 .1 .1 .1 .1 .1 .0) ≡ c .before .before .before .before .before .state-count .result
+-- the numbers used are n, and what is cleared is no less
+used :
+    (c : tie.After-judged) →
+    length (c .judged .last .1 .1 .1 .1 .1 .1 .0) ≡ c .before .before .before .before .before .state-count .result
 used c =
     let counted = c .before .before .before .before .before in
     c .judged .kept .1 .1 .1 .1 .1 .1 .0 ∙ prefix-size (counted .state-count .result) _ (omega (arith, inside counted))
 
-mul-zeros : tie.Need-mul-zeros
-mul-zeros c = search needs
+scratch-size-requires : tie.Need-scratch-size-requires
+scratch-size-requires c κs =
+    let counted = c .before .before .before .before .before .before .before .before .before in
+    omega (arith, well-formed _ (passed (counted .before) .of-chart) .shape .few-states, counted .state-count .ensures .0)
+
+sized :
+    (c : tie.After-scratch-size) →
+    let counted = c .before .before .before .before .before .before .before .before .before .before in
+    (counted .state-count .result ≤ c .scratch-size .result) × (c .scratch-size .result ≤ length (lent counted))
+sized c =
+    let counted = c .before .before .before .before .before .before .before .before .before .before in
+    (omega (arith, c .scratch-size .ensures), omega (arith, c .scratch-size .ensures, inside counted))
 
 slice-relend-prefix-clear : tie.Need-slice-relend-prefix-clear
 slice-relend-prefix-clear c =
-    let judged = c .before .before .before .before in
+    let judged = c .before .before .before .before .before in
     let counted = judged .before .before .before .before .before in
-    used-size _ (lent counted) (judged .judged .last .1 .1 .1 .1 .1 .1 .0) (used judged) (inside counted)
+    let numbers = judged .judged .last .1 .1 .1 .1 .1 .1 .0 in
+    used-size _ _ (lent counted) numbers (used judged) (sized c .0) (sized c .1)
 
 slice-aggregate-clear : tie.Need-slice-aggregate-clear
 slice-aggregate-clear c =
-    let judged = c .before .before .before .before .before in
+    let judged = c .before .before .before .before .before .before in
     let counted = judged .before .before .before .before .before in
-    used-front _ (lent counted) (judged .judged .last .1 .1 .1 .1 .1 .1 .0) (used judged) (inside counted)
+    let numbers = judged .judged .last .1 .1 .1 .1 .1 .1 .0 in
+    used-front _ _ (lent counted) numbers (used judged) (sized (c .before) .0) (sized (c .before) .1)
 
 clear-requires : tie.Need-clear-requires
 clear-requires c κs = search needs
@@ -115,14 +130,16 @@ same-length-4 c = search needs
 returns-2 : tie.Need-returns-2
 returns-2 c =
     let cleared = c .before .before in
-    let judged = cleared .before .before .before .before .before .before in
+    let size = cleared .before .before in
+    let judged = size .before .before .before .before .before in
     let counted = judged .before .before .before .before .before in
     let input = counted .before .before .before in
     let a = input .before .before .before .before .before .before .before .args in
+    let numbers = judged .judged .last .1 .1 .1 .1 .1 .1 .0 in
     judged-checked (now (a .chart)) (now (a .rule)) (now (a .marks)) (now (a .scratch)) (input .input-refusal .ensures)
-    (counted .before .if1 .left) (counted .state-count .ensures .0) (judged .judged .ensures)
-    (cleared-front _ (lent counted) (judged .judged .last .1 .1 .1 .1 .1 .1 .0) (used judged) (inside counted) (cleared .clear .last .0) (cleared .clear .kept .0)
-    (cleared .clear .ensures))
+    (counted .before .if1 .left) (counted .state-count .ensures .0) (size .scratch-size .ensures) (judged .judged .ensures)
+    (cleared-front _ _ (lent counted) numbers (used judged) (sized size .0) (sized size .1) (cleared .clear .last .0)
+    (cleared .clear .kept .0) (cleared .clear .ensures))
 
 pub check-spec : {M : Type 1} → statement M
 check-spec =
@@ -138,7 +155,7 @@ check-spec =
     slice-relend-prefix-judged
     slice-aggregate-judged
     judged-requires
-    mul-zeros
+    scratch-size-requires
     slice-relend-prefix-clear
     slice-aggregate-clear
     clear-requires

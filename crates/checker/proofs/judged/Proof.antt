@@ -13,8 +13,8 @@ same-length c = search needs
 returns : tie.Need-returns
 returns c = search needs
 
-sub-settle : tie.Need-sub-settle
-sub-settle c = some-nodes (c .before .before .before .before .before .before .before .before .before .before .pre)
+sub-last : tie.Need-sub-last
+sub-last c = some-nodes (c .before .before .before .before .before .before .before .before .before .before .pre)
 
 settle-requires : tie.Need-settle-requires
 settle-requires c κs =
@@ -42,7 +42,7 @@ judged-spec =
     loop-refusal-requires
     same-length
     returns
-    sub-settle
+    sub-last
     settle-requires
     same-length-2
     same-length-3

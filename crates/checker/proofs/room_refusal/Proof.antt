@@ -1,9 +1,12 @@
 -- Each return is the row whose test led there, the tests before it having failed.
+use lib.ListN.{length}
 use borrow.Author.Tests.{lt-ltb, le-ltb}
 use native.Mathlib.Nat.{mul-le-mul}
 use native.Mathlib.Omega.{arith}
 use Rattle.outcome.specs.Refusal.{first}
 use borrow.Author.Needs.{needs}
+use Rattle.checker.specs.Check.{scratchSize}
+use denote.Ref.{now}
 use Rattle.checker.proofs.room_refusal.Statement.{statement}
 use Rattle.checker.proofs.room_refusal.Tie as tie
 
@@ -19,8 +22,8 @@ returns : tie.Need-returns
 unfolding first
 returns c = simp (lt-ltb _ _ (c .before .if1 .taken)) (c .refused .ensures)
 
-mul-if2 : tie.Need-mul-if2
-mul-if2 c = search needs
+scratch-size-requires : tie.Need-scratch-size-requires
+scratch-size-requires c κs = search needs
 
 refused-requires-2 : tie.Need-refused-requires-2
 refused-requires-2 c κs = search needs
@@ -28,7 +31,10 @@ refused-requires-2 c κs = search needs
 returns-2 : tie.Need-returns-2
 unfolding first
 returns-2 c =
-    simp (le-ltb _ _ (c .before .before .if1 .left), lt-ltb _ _ (c .before .if2 .taken)) (c .refused2 .ensures)
+    let sized = c .before .before in
+    let a = sized .before .before .before .before .args in
+    let short = lt-ltb (length (now (a .scratch))) (scratchSize (a .n)) (omega (arith, sized .scratch-size .ensures)) in
+    simp (le-ltb _ _ (sized .before .if1 .left), short) (c .refused2 .ensures)
 
 accepted-requires : tie.Need-accepted-requires
 accepted-requires c κs = search needs
@@ -36,7 +42,10 @@ accepted-requires c κs = search needs
 returns-3 : tie.Need-returns-3
 unfolding first
 returns-3 c =
-    simp (le-ltb _ _ (c .before .before .if1 .left), le-ltb _ _ (c .before .if2 .left)) (c .accepted .ensures)
+    let sized = c .before .before in
+    let a = sized .before .before .before .before .args in
+    let enough = le-ltb (length (now (a .scratch))) (scratchSize (a .n)) (omega (arith, sized .scratch-size .ensures)) in
+    simp (le-ltb _ _ (sized .before .if1 .left), enough) (c .accepted .ensures)
 
 pub room-refusal-spec : {M : Type 1} → statement M
 room-refusal-spec =
@@ -45,7 +54,7 @@ room-refusal-spec =
     mul-if1
     refused-requires
     returns
-    mul-if2
+    scratch-size-requires
     refused-requires-2
     returns-2
     accepted-requires

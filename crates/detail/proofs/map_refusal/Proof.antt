@@ -1,22 +1,22 @@
 -- Row 20, then the others.
 use borrow.Author.Needs.{needs}
 use denote.Ref.{now}
-use Rattle.chart.proofs.Accepted.{checked}
+use Rattle.chart.proofs.Accepted.{well-formed}
 use Rattle.detail.proofs.Chain.{form-stops, mapped-next, map-whole}
 use Rattle.detail.proofs.map_refusal.Statement.{statement}
 use Rattle.detail.proofs.map_refusal.Tie as tie
 
 state-count-requires : tie.Need-state-count-requires
-state-count-requires c κs = checked _ (c .before .before .before .pre .0) .head .enough
+state-count-requires c κs = well-formed _ (c .before .before .before .pre .0) .head .enough
 
 arrow-count-requires : tie.Need-arrow-count-requires
-arrow-count-requires c κs = checked _ (c .before .before .before .before .pre .0) .head .enough
+arrow-count-requires c κs = well-formed _ (c .before .before .before .before .pre .0) .head .enough
 
 state-count-requires-2 : tie.Need-state-count-requires-2
-state-count-requires-2 c κs = checked _ (c .before .before .before .before .before .pre .1) .head .enough
+state-count-requires-2 c κs = well-formed _ (c .before .before .before .before .before .pre .1) .head .enough
 
 arrow-count-requires-2 : tie.Need-arrow-count-requires-2
-arrow-count-requires-2 c κs = checked _ (c .before .before .before .before .before .before .pre .1) .head .enough
+arrow-count-requires-2 c κs = well-formed _ (c .before .before .before .before .before .before .pre .1) .head .enough
 
 form-refusal-requires : tie.Need-form-refusal-requires
 form-refusal-requires c κs = search needs

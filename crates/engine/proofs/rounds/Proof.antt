@@ -8,10 +8,10 @@ use Rattle.engine.proofs.rounds.Statement.{statement}
 use Rattle.engine.proofs.rounds.Tie as tie
 
 abbrev Inv-loop : tie.InvT-loop
-Inv-loop change chart n m go numbers₀ i₀ numbers i = (i ≤ n) × Repeated change go chart i numbers₀ numbers
+Inv-loop change chart n m go numbers₀ done₀ numbers done = (done ≤ n) × Repeated change go chart done numbers₀ numbers
 
 abbrev μ-loop : tie.MeasureT-loop
-μ-loop change chart n m go numbers₀ i₀ numbers i = n - i
+μ-loop change chart n m go numbers₀ done₀ numbers done = n - done
 
 loop-holds : tie.Need-loop-holds Inv-loop μ-loop
 loop-holds c = (omega arith, repeated-none)
@@ -36,8 +36,8 @@ returns c =
     let inv = rounded .before .before .before .loop .inv in
     repeated-still (inv .0) (inv .1) (rounded .round .ensures) (c .if1 .taken) .is
 
-add-i : tie.Need-add-i Inv-loop μ-loop
-add-i c = omega arith
+add-done : tie.Need-add-done Inv-loop μ-loop
+add-done c = omega arith
 
 loop-less : tie.Need-loop-less Inv-loop μ-loop
 loop-less c = omega arith
@@ -55,7 +55,7 @@ same-length-2 c =
 returns-2 : tie.Need-returns-2 Inv-loop μ-loop
 returns-2 c =
     let loop = c .before .loop in
-    let all : c .before .before .before .before .before .args .n ≡ loop .i = omega (arith, loop .inv .0) in
+    let all : c .before .before .before .before .before .args .n ≡ loop .done = omega (arith, loop .inv .0) in
     rw all (loop .inv .1 .is)
 
 pub rounds-spec : {M : Type 1} → statement M
@@ -68,7 +68,7 @@ rounds-spec =
     round-requires
     same-length
     returns
-    add-i
+    add-done
     loop-less
     loop-again
     same-length-2
