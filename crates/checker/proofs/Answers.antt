@@ -1,4 +1,4 @@
--- Check's two answers: a refusal before anything is written, and what is left once row 19 was tested and scratch cleared.
+-- Check's two answers: a refusal before anything is written, and one after row 19 was tested and scratch cleared.
 use mathlib.Core.Path.{_≡_, refl, sym, ap, subst, _∙_}
 use mathlib.Core.Logic.{_⊎_, inl, inr}
 use mathlib.Core.Bool.{Bool, true, false, cond, _||_}
@@ -47,6 +47,10 @@ module _ (chart rule marks scratch : List ℕ) {r : Outcome}
     abbrev n : ℕ
     n = stateCount chart
 
+    -- scratch with its first numbers cleared
+    abbrev zeroed : List ℕ
+    zeroed = replicate (scratchSize n) 0 ++ drop (scratchSize n) scratch
+
     -- the chart has a state, and if row 19 is not met either it is accepted
     some-states : 0 < n
     some-states = well-formed chart (input-passes chart rule marks scratch e z .of-chart) .shape .some-states
@@ -61,15 +65,16 @@ module _ (chart rule marks scratch : List ℕ) {r : Outcome}
     unfolding marksAfter
     marks-are = turn (eqb (o .number) 0) refl
       where
-        turn : (b : Bool) → eqb (o .number) 0 ≡ b → new ≡ cond b (marksOf chart rule ++ drop (nodeCount rule * n) marks) marks
+        turn :
+            (b : Bool) → eqb (o .number) 0 ≡ b →
+            new ≡ cond b (marksOf chart rule ++ drop (nodeCount rule * n) marks) marks
         turn true f =
             marks-written chart rule some-states marks new (input-passes chart rule marks scratch e z .table) (x .size)
             (x .rows (eqb-true _ _ f)) (x .rest)
         turn false f = x .refused (eqb-false _ _ f)
 
     -- row 19 answers 0 or 19
-    scratch-are :
-        {zeros : List ℕ} → zeros ≡ replicate (scratchSize n) 0 ++ drop (scratchSize n) scratch → zeros ≡ scratchAfter chart (o .number) scratch
+    scratch-are : {zeros : List ℕ} → zeros ≡ zeroed → zeros ≡ scratchAfter chart (o .number) scratch
     unfolding scratchAfter
     scratch-are {zeros} f = turn (loop-number chart)
       where
@@ -78,7 +83,7 @@ module _ (chart rule marks scratch : List ℕ) {r : Outcome}
 
         turn :
             (first (loopRow chart ∷ []) .number ≡ 0) ⊎ (first (loopRow chart ∷ []) .number ≡ 19) →
-            zeros ≡ cond (eqb (o .number) 0 || eqb (o .number) 19) (replicate (scratchSize n) 0 ++ drop (scratchSize n) scratch) scratch
+            zeros ≡ cond (eqb (o .number) 0 || eqb (o .number) 19) zeroed scratch
         turn (inl w) = rw (is, w) f
         turn (inr w) = rw (is, w) f
 
@@ -87,10 +92,10 @@ module _ (chart rule marks scratch : List ℕ) {r : Outcome}
     tells w t s l h =
         let φ = formulaAt rule t in
         let decided = holds-iff (chartOf chart) (accepted w) φ s (omega (arith, states-of chart)) in
-        subst (λ b. Tells b (Holds (chartOf chart) φ s)) (sym (x .rows w t l s h)) (bit-tells (holds (chartOf chart) φ s) _ decided)
+        subst (λ b. Tells b (Holds (chartOf chart) φ s)) (sym (x .rows w t l s h))
+        (bit-tells (holds (chartOf chart) φ s) _ decided)
 
-    all-checked :
-        {zeros : List ℕ} → zeros ≡ replicate (scratchSize n) 0 ++ drop (scratchSize n) scratch → Checked chart rule marks scratch o new zeros
+    all-checked : {zeros : List ℕ} → zeros ≡ zeroed → Checked chart rule marks scratch o new zeros
     all-checked f =
         record {
           answer = loop-next chart rule marks scratch e z (x .answer);

@@ -32,8 +32,8 @@ returns-2 c =
     let settled = c .before .before .before .before in
     let passed = settled .before .before .before in
     let looped = passed .before .before .before .before in
-    all-settled (looped .before .before .before .before .before .before .pre) (looped .loop-refusal .ensures) (passed .if1 .left)
-    (settled .settle .ensures)
+    let ready = looped .before .before .before .before .before .before .pre in
+    all-settled ready (looped .loop-refusal .ensures) (passed .if1 .left) (settled .settle .ensures)
 
 pub judged-spec : {M : Type 1} → statement M
 judged-spec =

@@ -25,8 +25,14 @@ abbrev settle-below : ℕ → In 4 settle-kinds.ps
 settle-below t = and 4 settle-kinds.ps (falls 4 settle-kinds.ps _<_ μ-settle t) settle.Pre
 
 abbrev calls : ℕ → settle-lts.Claims
-calls t =
-    (node-at-reads.Asked, node-at-reads.Learnt, settle-node-reads.Asked, settle-node-reads.Learnt, settle-below t, settle.Post)
+calls t = (
+  node-at-reads.Asked,
+  node-at-reads.Learnt,
+  settle-node-reads.Asked,
+  settle-node-reads.Learnt,
+  settle-below t,
+  settle.Post,
+)
 
 -- what was read is node t
 begun :
