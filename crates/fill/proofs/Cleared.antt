@@ -15,10 +15,10 @@ use Rattle.tctl.specs.Tabulate.{tabulate}
 use Rattle.tctl.proofs.Tabulate.{tabulate-ext}
 use Rattle.model.specs.Every.{every}
 use Rattle.model.specs.Engine.{num}
+use Rattle.model.specs.Decide.{leadsTo}
 use Rattle.model.specs.Marks.{flag}
 use Rattle.chart.specs.declared.ArrowWords.{ArrowWords}
 use Rattle.chart.specs.Bytes.{arrowCount, arrowWords, arrowOf, chartOf}
-use Rattle.fill.specs.Fill.{leadsTo}
 
 -- the first i arrows of a chart's bytes
 abbrev firstArrows : List ℕ → ℕ → List Arrow

@@ -1,11 +1,8 @@
 -- What a row of marks or a list of numbers is filled with, state by state.
 use mathlib.Core.Bool.{Bool, true, false, cond, _&&_, _||_}
 use mathlib.Core.Bool.{not as neg}
-use mathlib.Core.List.{List}
 use Prim.Native.Nat.{ℕ}
-use lib.Dec.{eqb, ltb, leb}
-use Rattle.tctl.specs.Chart.{Arrow}
-use Rattle.model.specs.Every.{every}
+use lib.Dec.{ltb, leb}
 use Rattle.fill.specs.declared.Mix.{Mix}
 use Rattle.fill.specs.declared.Mix.the-variants.{Yes, First, Not, And, Or, Waiting}
 use Rattle.fill.specs.declared.Base.{Base}
@@ -31,7 +28,3 @@ baseOf (Stay cap) p q = cond p cap 0
 abbrev pub judged : Bool → ℕ → ℕ → Bool
 judged true limit v = ltb limit v
 judged false limit v = leb v limit
-
--- every arrow from s leads to where good holds
-abbrev pub leadsTo : List Arrow → (ℕ → Bool) → ℕ → Bool
-leadsTo arrows good s = every (λ a. neg (eqb (a .start) s) || good (a .end)) arrows

@@ -7,10 +7,11 @@ ghost use lib.ListN.{length};
 ghost use lib.Dec.{eqb};
 ghost use Rattle.tctl.specs.Tabulate.{tabulate};
 ghost use Rattle.model.specs.Engine.{num};
+ghost use Rattle.model.specs.Decide.{leadsTo};
 ghost use Rattle.model.specs.Marks.{flag, mark};
 ghost use Rattle.chart.specs.Bytes.{labelWord, chartOf};
 ghost use Rattle.chart.specs.Shape.{Passed};
-ghost use Rattle.fill.specs.Fill.{mixOf, baseOf, judged, leadsTo};
+ghost use Rattle.fill.specs.Fill.{mixOf, baseOf, judged};
 ghost use Rattle.fill.specs.Parts.{Wrote};
 
 // A mark from the marks p and q of two operands. Waiting: p and not q.

@@ -38,10 +38,10 @@ module _ {G : Chart} (dr : Drawn G) (live : Lively G) (p q : ℕ → Bool) where
   leads-well s a = not (eqb (a .start) s) || good (a .end)
 
   sure : ℕ → Bool
-  sure = ask (sureRow (G .arrows) (states G) p good)
+  sure = ask (sureRow (G .arrows) (states G) p q)
 
   sure-is : (s : ℕ) → s < states G → {b : Bool} → sure s ≡ b → (p s && every (leads-well s) (G .arrows)) ≡ b
-  unfolding sure sureRow leads-well
+  unfolding sure sureRow leads-well good
   sure-is s l e = asked (states G) (λ s. p s && every (leads-well s) (G .arrows)) s l e
 
   bad-open : (s : ℕ) → s < states G → sure s ≡ false → Open G (Yes p) (Yes q) s

@@ -2,18 +2,18 @@
 use mathlib.Core.Path.{_≡_, refl, ap, subst, _∙_}
 use mathlib.Core.List.{List, [], _∷_, map}
 use mathlib.Core.List.{List·Memᴰ, List·Memᴰ·head, List·Memᴰ·tail, Memᴰ·of-map}
-use mathlib.Core.Bool.{Bool, true, false, cond, _&&_, _||_}
+use mathlib.Core.Bool.{Bool, true, false, cond, _&&_}
 use mathlib.Core.Bool.{not as neg}
 use Prim.Native.Nat.{ℕ, zero, suc, _+_, _<_}
 use native.Mathlib.Omega.{arith}
 use lib.ListN.{set}
-use lib.Dec.{eqb, leb, ltb}
+use lib.Dec.{leb, ltb}
 use Rattle.tctl.specs.Tabulate.{tabulate}
 use Rattle.tctl.specs.Chart.{Arrow}
 use Rattle.tctl.specs.Formula.{Bound, atMost, atLeast}
 use Rattle.model.specs.Every.{every}
 use Rattle.model.specs.Engine.{num, round, rounds, lower, offer, raise, least, greatest}
-use Rattle.model.specs.Decide.{ask, someRow, waiting, failing, waits, ticking, plainRow, sureRow, allRow}
+use Rattle.model.specs.Decide.{ask, someRow, waiting, failing, waits, ticking, plainRow, leadsTo, sureRow, allRow}
 
 -- f and g agree below n
 abbrev pub Same {ℓ} : {A : Type ℓ} → ℕ → (ℕ → A) → (ℕ → A) → Type ℓ
@@ -147,11 +147,12 @@ module _
   unfolding plainRow
   plain-row-same = ap (λ t. tabulate n (λ s. leb (num t s) n)) (waits-same (joins-ticking joins) n)
 
-  sure-row-same : (good : ℕ → Bool) → sureRow arrows n p good ≡ sureRow arrows n p′ good
+  sure-row-same : sureRow arrows n p q ≡ sureRow arrows n p′ q′
   unfolding sureRow
-  sure-row-same good =
-      let well : ℕ → Bool = λ s. every (λ a. neg (eqb (a .start) s) || good (a .end)) arrows in
-      tabulate-same n (λ s. p s && well s) (λ s. p′ s && well s) (λ s l. ap (λ b. b && well s) (ps s l))
+  sure-row-same =
+      let well : ℕ → Bool = leadsTo arrows (ask (plainRow arrows n p q)) in
+      tabulate-same n (λ s. p s && well s) (λ s. p′ s && well s) (λ s l. ap (λ b. b && well s) (ps s l)) ∙
+      ap (λ t. tabulate n (λ s. p′ s && leadsTo arrows (ask t) s)) plain-row-same
 
   pub all-row-same : (b : Bound) → allRow arrows n b p q ≡ allRow arrows n b p′ q′
   unfolding allRow
@@ -159,4 +160,4 @@ module _
   all-row-same (atLeast zero) = plain-row-same
   all-row-same (atLeast (suc c)) =
       ap (λ t. tabulate n (λ s. leb (suc c) (num (least arrows n (suc c) (λ s. true) (λ s. neg (ask t s))) s)))
-      (sure-row-same (ask (plainRow arrows n p q)) ∙ ap (λ t. sureRow arrows n p′ (ask t)) plain-row-same)
+      sure-row-same

@@ -1,11 +1,11 @@
 -- The rows of a table of marks: one is written, written again, lent; the rows below it stay.
-use mathlib.Core.Path.{_≡_, ap, _∙_}
+use mathlib.Core.Path.{ap, _∙_}
 use mathlib.Core.Logic.{inl}
 use mathlib.Core.Bool.{Bool}
 use mathlib.Core.List.{List}
-use Prim.Native.Nat.{ℕ, _+_, _*_, _-_, _≤_, _<_}
+use Prim.Native.Nat.{ℕ, _+_, _*_, _-_, _<_}
 use native.Mathlib.Omega.{arith}
-use lib.ListN.{length, take, drop, length-take, length-drop}
+use lib.ListN.{take, drop}
 use lib.Seq.{getD-take, getD-drop}
 use lib.Dec.{eqb}
 use Rattle.model.specs.Marks.{bit, flag, mark}
@@ -29,9 +29,6 @@ module _ {at n : ℕ} {f : ℕ → Bool} {old new : List ℕ} (w : Written at n 
         here = v .here;
         elsewhere = λ j o. v .elsewhere j o ∙ w .elsewhere j o;
       }
-
-  pub lent-size : at + n ≤ length old → length (lent at n new) ≡ n
-  lent-size h = omega (arith, w .size, length-take (at + n - at) (drop at new), length-drop at new)
 
   -- what was written is what is lent
   pub lent-written : Same n (flag (lent at n new)) f

@@ -1,4 +1,4 @@
--- The numbers that each until is judged by are those of its row.
+-- The numbers that are lent become those of the model, and judged they are the rows of the untils.
 use mathlib.Core.Path.{_≡_, refl, sym, ap, _∙_}
 use mathlib.Core.Bool.{Bool, true, false, cond, _&&_, _||_}
 use mathlib.Core.Bool.{not as neg}
@@ -11,11 +11,10 @@ use Rattle.tctl.specs.Chart.{Arrow}
 use Rattle.tctl.specs.Formula.{atMost, atLeast}
 use Rattle.tctl.proofs.Tabulate.{getD-tabulate}
 use Rattle.model.specs.Engine.{num, least, greatest}
-use Rattle.model.specs.Decide.{ask, someRow, waiting, failing, waits, ticking, plainRow, sureRow, allRow}
+use Rattle.model.specs.Decide.{ask, someRow, waiting, failing, waits, ticking, plainRow, leadsTo, sureRow, allRow}
 use Rattle.model.proofs.Same.{Same, tabulate-same, every-same, Joins, least-same, greatest-same}
 use Rattle.engine.specs.Change.{lowered, raised}
-use Rattle.fill.specs.Fill.{leadsTo}
-use Rattle.nodes.specs.Sure.{sureStart}
+use Rattle.nodes.specs.Untils.{sureStart}
 
 -- a row that is tabulated from the numbers ts answers as the same numbers ws do
 answers :
@@ -39,14 +38,14 @@ module _
     (goes : Same n go go′)
     {vs ws : List ℕ} where
   -- The rounds that were made, through go and from vs, are those of the least numbers, and of the greatest.
-  is-least :
+  pub is-least :
       (cap : ℕ) (end : ℕ → Bool) → vs ≡ tabulate n (λ s. cond (end s) 0 cap) → ws ≡ lowered arrows n go vs →
       ws ≡ least arrows n cap go′ end
   unfolding least
   is-least cap end start runs =
       runs ∙ ap (lowered arrows n go) start ∙ least-same joins goes cap {end = end} {end′ = end} (λ s l. refl)
 
-  is-greatest :
+  pub is-greatest :
       (cap : ℕ) (base : ℕ → ℕ) → vs ≡ tabulate n base → ws ≡ raised arrows n cap go vs →
       ws ≡ greatest arrows n cap go′ base
   unfolding greatest
@@ -55,33 +54,27 @@ module _
 
 -- ── E(p until q), and the waits ──
 
-module _ {n : ℕ} {arrows : List Arrow} (joins : Joins n arrows) (p q : ℕ → Bool) {go : ℕ → Bool} {vs ws : List ℕ} where
+module _ (n : ℕ) (arrows : List Arrow) (p q : ℕ → Bool) (c : ℕ) {ws : List ℕ} where
   pub some-at-most :
-      (c : ℕ) → Same n go p → vs ≡ tabulate n (λ s. cond (q s) 0 (c + 1)) → ws ≡ lowered arrows n go vs →
-      Same n (λ s. leb (num ws s) c) (ask (someRow arrows n (atMost c) p q))
+      ws ≡ least arrows n (c + 1) p q → Same n (λ s. leb (num ws s) c) (ask (someRow arrows n (atMost c) p q))
   unfolding someRow
-  some-at-most c goes start runs s l =
-      let is = is-least joins goes (c + 1) q start runs ∙ ap (λ k. least arrows n k p q) (one-more c) in
-      up-to (num ws s) c ∙ answers (λ v. ltb v (suc c)) is s l
+  some-at-most is s l =
+      up-to (num ws s) c ∙ answers (λ v. ltb v (suc c)) (is ∙ ap (λ k. least arrows n k p q) (one-more c)) s l
 
   pub some-at-least :
-      (c : ℕ) → Same n go p → vs ≡ tabulate n (λ s. cond (q s) 1 0) → ws ≡ raised arrows n (c + 1) go vs →
+      ws ≡ greatest arrows n (c + 1) p (λ s. cond (q s) 1 0) →
       Same n (λ s. ltb c (num ws s)) (ask (someRow arrows n (atLeast c) p q))
   unfolding someRow
-  some-at-least c goes start runs =
-      let base : ℕ → ℕ = λ s. cond (q s) 1 0 in
-      answers (ltb c)
-      (is-greatest joins goes (c + 1) base start runs ∙ ap (λ k. greatest arrows n k p base) (one-more c))
+  some-at-least is =
+      answers (ltb c) (is ∙ ap (λ k. greatest arrows n k p (λ s. cond (q s) 1 0)) (one-more c))
 
   pub unhindered-by :
-      (limit : ℕ) → Same n go (waiting p q) → vs ≡ tabulate n (failing (limit + 1) p q) →
-      ws ≡ raised arrows n (limit + 1) go vs →
-      Same n (λ s. leb (num ws s) limit) (λ s. leb (num (waits arrows n limit p q) s) limit)
+      ws ≡ greatest arrows n (c + 1) (waiting p q) (failing (c + 1) p q) →
+      Same n (λ s. leb (num ws s) c) (λ s. leb (num (waits arrows n c p q) s) c)
   unfolding waits
-  unhindered-by limit goes start runs s l =
-      ap (λ t. leb (num t s) limit)
-      (is-greatest joins goes (limit + 1) (failing (limit + 1) p q) start runs ∙
-      ap (λ k. greatest arrows n k (waiting p q) (failing k p q)) (one-more limit))
+  unhindered-by is s l =
+      ap (λ t. leb (num t s) c)
+      (is ∙ ap (λ k. greatest arrows n k (waiting p q) (failing k p q)) (one-more c))
 
 -- ── A(p until q), by the waits ──
 
@@ -123,7 +116,7 @@ module _
   plain = ask (plainRow arrows n p q)
 
   abbrev sure : ℕ → Bool
-  sure = ask (sureRow arrows n p plain)
+  sure = ask (sureRow arrows n p q)
 
   -- an arrow leads to a state, so good is asked of states alone
   sure-is : (s : ℕ) → s < n → (p s && leadsTo arrows good s) ≡ sure s
@@ -151,15 +144,13 @@ module _
           sure-start (p s) (leadsTo arrows good s) c ∙
           ap {B = ℕ} (λ b. cond (neg b) 0 c) (sure-is s l)
 
--- from a sure start the rounds are those of the row, and a number above c - 1 is c at least
+-- a number above c - 1 is c at least
 pub all-at-least :
-    {n : ℕ} {arrows : List Arrow} → Joins n arrows → (p q : ℕ → Bool) (c : ℕ) {go : ℕ → Bool} {vs ws : List ℕ} → 0 < c →
-    Same n go (λ s. true) → vs ≡ sureStart arrows n p q c → ws ≡ lowered arrows n go vs →
+    (n : ℕ) (arrows : List Arrow) (p q : ℕ → Bool) (c : ℕ) {ws : List ℕ} → 0 < c →
+    ws ≡ least arrows n c (λ s. true) (λ s. neg (ask (sureRow arrows n p q) s)) →
     Same n (λ s. ltb (c - 1) (num ws s)) (ask (allRow arrows n (atLeast c) p q))
-unfolding allRow sureStart
-all-at-least joins p q zero h goes start runs s l = absurd (let z : ⊥ = omega arith in z)
-all-at-least {n} {arrows} joins p q (suc c) {ws = ws} h goes start runs s l =
-    let sure = ask (sureRow arrows n p (ask (plainRow arrows n p q))) in
-    let is = is-least joins goes (suc c) (λ s. neg (sure s)) start runs in
+unfolding allRow
+all-at-least n arrows p q zero h is s l = absurd (let z : ⊥ = omega arith in z)
+all-at-least n arrows p q (suc c) {ws} h is s l =
     let less : suc c - 1 ≡ c = omega arith in
     ap (λ k. ltb k (num ws s)) less ∙ answers (ltb c) is s l

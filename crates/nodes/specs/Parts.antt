@@ -8,6 +8,7 @@ use Rattle.model.specs.Marks.{bit}
 use Rattle.chart.specs.Bytes.{chartOf}
 use Rattle.chart.specs.Shape.{Passed}
 use Rattle.rule.specs.Bytes.{nodeCount, nodeWords}
+use Rattle.rule.specs.declared.NodeWords.{NodeWords}
 use Rattle.rule.specs.Refusals.{ruleRefusal}
 use Rattle.rule.specs.Formula.{formulaAt}
 
@@ -17,11 +18,10 @@ pub record Lent (chart : List ℕ) (n m t : ℕ) (marks numbers : List ℕ) : Ty
   pub table : t * n + n ≤ length marks
   pub size : length numbers ≡ n
 
--- node t's operands, in an until: lower nodes, and c
-pub record Until (t a b c : ℕ) : Type 0 where
-  pub left : a < t
-  pub right : b < t
-  pub bound : c < 65536
+-- two operands below node t
+pub record Lower (t : ℕ) (w : NodeWords) : Type 0 where
+  pub left : w .a < t
+  pub right : w .b < t
 
 -- node t of a rule that passes checks 10 to 16
 pub record Node (rule : List ℕ) (t : ℕ) : Type 0 where
@@ -30,7 +30,8 @@ pub record Node (rule : List ℕ) (t : ℕ) : Type 0 where
 
 -- row u holds the marks of node u
 abbrev pub Right : List ℕ → ℕ → List ℕ → ℕ → List ℕ → Type 0
-Right chart n rule u marks = (s : ℕ) → s < n → getD marks (u * n + s) 0 ≡ bit (holds (chartOf chart) (formulaAt rule u) s)
+Right chart n rule u marks =
+    (s : ℕ) → s < n → getD marks (u * n + s) 0 ≡ bit (holds (chartOf chart) (formulaAt rule u) s)
 
 -- the rows of node t's operands hold their marks
 pub record Operands (chart : List ℕ) (n : ℕ) (rule : List ℕ) (t : ℕ) (marks : List ℕ) : Type 0 where

@@ -1,42 +1,84 @@
 // Settling one node: its row of marks from the rows of its operands. Row t holds the engine's go marks meanwhile.
 ghost use mathlib.Core.Path.{_≡_};
-ghost use Prim.Native.Nat.{suc, _+_, _*_, _≤_, _<_};
+ghost use mathlib.Core.Bool.{Bool, cond};
+ghost use Prim.Native.Nat.{ℕ, suc, _+_, _*_, _≤_, _<_};
 ghost use lib.ListN.{length};
 ghost use lib.Dec.{leb};
 ghost use Rattle.tctl.specs.Tabulate.{tabulate};
 ghost use Rattle.tctl.specs.Formula.{atMost, atLeast};
-ghost use Rattle.model.specs.Engine.{num};
+ghost use Rattle.model.specs.Engine.{num, Numbers, least, greatest};
 ghost use Rattle.model.specs.Decide.{ask, someRow, waits, plainRow, allRow, holds};
 ghost use Rattle.model.specs.Marks.{mark};
 ghost use Rattle.chart.specs.Bytes.{chartOf};
+ghost use Rattle.chart.specs.Shape.{Passed};
 ghost use Rattle.rule.specs.Formula.{boundOf, formulaAt};
 ghost use Rattle.engine.specs.Change.{highest, weighed};
-ghost use Rattle.fill.specs.Fill.{mixOf, baseOf};
+ghost use Rattle.fill.specs.Fill.{baseOf};
 ghost use Rattle.fill.specs.Parts.{Wrote};
-ghost use Rattle.nodes.specs.Parts.{Lent, Until, Node, Operands};
-ghost use Rattle.nodes.specs.Sure.{sureStart};
+ghost use Rattle.nodes.specs.Parts.{Lent, Lower, Node, Operands};
+ghost use Rattle.nodes.specs.Untils.{through, from, untilRow, sureStart};
 use fill::Base;
 use fill::Mix;
+use rule::NodeWords;
 
-// Numbers to start from, and in row t the states to go through.
-fn begin(
+// From which numbers to rise, through which states, by minutes or by ticks, up to which cap.
+struct Ascent {
     base: Base,
     mix: Mix,
+    ticks: bool,
+    cap: u32,
+}
+
+// The greatest numbers of the operands' marks.
+fn climb(
+    way: Ascent,
+    chart: &[u8],
     n: usize,
+    m: usize,
     t: usize,
-    a: usize,
-    b: usize,
+    node: NodeWords,
     marks: &mut [u8],
     numbers: &mut [u32],
 )
-    requires { ⌜ (length (now numbers) ≡ n) × (t * n + n ≤ length (now marks)) × Until t a b 0 ⌝ }
-    ensures { λ _. ⌜ Wrote n t (λ s. mixOf mix (mark n (now (marks .entry)) a s) (mark n (now (marks .entry)) b s))
+    requires { ⌜ Lent (now chart) n m t (now marks) (now numbers) × Lower t node ⌝ }
+    requires { ⌜ (way .cap ≤ highest) × ((p q : Bool) → baseOf (way .base) p q ≤ highest) ⌝ }
+    ensures { λ _. ⌜ Wrote n t (through (way .mix) n (now (marks .entry)) node)
         (now (marks .entry)) (now (marks .exit))
         × (now (numbers .exit) ≡
-        tabulate n (λ s. baseOf base (mark n (now (marks .entry)) a s) (mark n (now (marks .entry)) b s))) ⌝ }
+        greatest (weighed (way .ticks) (chartOf (now (chart .entry)) .arrows)) n (way .cap)
+        (through (way .mix) n (now (marks .entry)) node) (from (way .base) n (now (marks .entry)) node)) ⌝ }
 {
-    fill::fill_numbers(base, n, a, b, marks, numbers);
-    fill::fill(mix, n, t, a, b, marks);
+    let base = way.base;
+    let mix = way.mix;
+    fill::fill_numbers(base, n, node.a, node.b, marks, numbers);
+    fill::fill(mix, n, t, node.a, node.b, marks);
+    let at = t * n;
+    let end = at + n;
+    engine::greatest(chart, n, m, way.ticks, way.cap, &marks[at..end], numbers);
+}
+
+// The least numbers, from 0 at each end and a cap elsewhere, through a mix of the operands' marks.
+fn descend(
+    mix: Mix,
+    chart: &[u8],
+    n: usize,
+    m: usize,
+    t: usize,
+    node: NodeWords,
+    marks: &mut [u8],
+    numbers: &mut [u32],
+)
+    requires { ⌜ Passed (now chart) n m × (t * n + n ≤ length (now marks)) ⌝ }
+    requires { ⌜ Lower t node × Numbers n highest (now numbers) ⌝ }
+    ensures { λ _. ⌜ Wrote n t (through mix n (now (marks .entry)) node) (now (marks .entry)) (now (marks .exit))
+        × ((cap : ℕ) (end : ℕ → Bool) → now (numbers .entry) ≡ tabulate n (λ s. cond (end s) 0 cap) →
+        now (numbers .exit) ≡
+        least (chartOf (now (chart .entry)) .arrows) n cap (through mix n (now (marks .entry)) node) end) ⌝ }
+{
+    fill::fill(mix, n, t, node.a, node.b, marks);
+    let at = t * n;
+    let end = at + n;
+    engine::least(chart, n, m, &marks[at..end], numbers);
 }
 
 // E(a until b, at most c): the fewest minutes to b, through a.
@@ -45,22 +87,20 @@ fn some_at_most(
     n: usize,
     m: usize,
     t: usize,
-    a: usize,
-    b: usize,
-    c: u32,
+    node: NodeWords,
     marks: &mut [u8],
     numbers: &mut [u32],
 )
-    requires { ⌜ Lent (now chart) n m t (now marks) (now numbers) × Until t a b c ⌝ }
+    requires { ⌜ Lent (now chart) n m t (now marks) (now numbers) × Lower t node × (node .c < 65536) ⌝ }
     ensures { λ _. ⌜ Wrote n t
-        (ask (someRow (chartOf (now (chart .entry)) .arrows) n (atMost c) (mark n (now (marks .entry)) a) (mark n (now (marks .entry)) b)))
+        (ask (someRow (chartOf (now (chart .entry)) .arrows) n (atMost (node .c))
+        (mark n (now (marks .entry)) (node .a)) (mark n (now (marks .entry)) (node .b))))
         (now (marks .entry)) (now (marks .exit)) ⌝ }
 {
-    begin(Base::Reach(c + 1), Mix::First, n, t, a, b, marks, numbers);
-    let at = t * n;
-    let end = at + n;
-    engine::least(chart, n, m, &marks[at..end], numbers);
-    fill::judge(false, c, n, t, numbers, marks);
+    let far = node.c + 1;
+    fill::fill_numbers(Base::Reach(far), n, node.a, node.b, marks, numbers);
+    descend(Mix::First, chart, n, m, t, node, marks, numbers);
+    fill::judge(false, node.c, n, t, numbers, marks);
 }
 
 // E(a until b, at least c): the most minutes to b, through a.
@@ -69,55 +109,53 @@ fn some_at_least(
     n: usize,
     m: usize,
     t: usize,
-    a: usize,
-    b: usize,
-    c: u32,
+    node: NodeWords,
     marks: &mut [u8],
     numbers: &mut [u32],
 )
-    requires { ⌜ Lent (now chart) n m t (now marks) (now numbers) × Until t a b c ⌝ }
+    requires { ⌜ Lent (now chart) n m t (now marks) (now numbers) × Lower t node × (node .c < 65536) ⌝ }
     ensures { λ _. ⌜ Wrote n t
-        (ask (someRow (chartOf (now (chart .entry)) .arrows) n (atLeast c) (mark n (now (marks .entry)) a) (mark n (now (marks .entry)) b)))
+        (ask (someRow (chartOf (now (chart .entry)) .arrows) n (atLeast (node .c))
+        (mark n (now (marks .entry)) (node .a)) (mark n (now (marks .entry)) (node .b))))
         (now (marks .entry)) (now (marks .exit)) ⌝ }
 {
-    begin(Base::Goal, Mix::First, n, t, a, b, marks, numbers);
-    let at = t * n;
-    let end = at + n;
-    engine::greatest(chart, n, m, false, c + 1, &marks[at..end], numbers);
-    fill::judge(true, c, n, t, numbers, marks);
+    let cap = node.c + 1;
+    let way = Ascent {
+        base: Base::Goal,
+        mix: Mix::First,
+        ticks: false,
+        cap,
+    };
+    climb(way, chart, n, m, t, node, marks, numbers);
+    fill::judge(true, node.c, n, t, numbers, marks);
 }
 
 // The states from which no run fails the until, or waits for it, up to a limit of minutes or of ticks.
 fn unhindered(
+    ticks: bool,
+    limit: u32,
     chart: &[u8],
     n: usize,
     m: usize,
     t: usize,
-    a: usize,
-    b: usize,
-    ticks: bool,
-    limit: u32,
+    node: NodeWords,
     marks: &mut [u8],
     numbers: &mut [u32],
 )
-    requires { ⌜ Lent (now chart) n m t (now marks) (now numbers) × Until t a b 0 × (suc limit ≤ highest) ⌝ }
+    requires { ⌜ Lent (now chart) n m t (now marks) (now numbers) × Lower t node × (suc limit ≤ highest) ⌝ }
     ensures { λ _. ⌜ Wrote n t
-        (λ s. leb (num (waits (weighed ticks (chartOf (now (chart .entry)) .arrows)) n limit (mark n (now (marks .entry)) a) (mark n (now (marks .entry)) b)) s) limit)
+        (λ s. leb (num (waits (weighed ticks (chartOf (now (chart .entry)) .arrows)) n limit
+        (mark n (now (marks .entry)) (node .a)) (mark n (now (marks .entry)) (node .b))) s) limit)
         (now (marks .entry)) (now (marks .exit)) ⌝ }
 {
-    begin(
-        Base::Fail(limit + 1),
-        Mix::Waiting,
-        n,
-        t,
-        a,
-        b,
-        marks,
-        numbers,
-    );
-    let at = t * n;
-    let end = at + n;
-    engine::greatest(chart, n, m, ticks, limit + 1, &marks[at..end], numbers);
+    let cap = limit + 1;
+    let way = Ascent {
+        base: Base::Fail(cap),
+        mix: Mix::Waiting,
+        ticks,
+        cap,
+    };
+    climb(way, chart, n, m, t, node, marks, numbers);
     fill::judge(false, limit, n, t, numbers, marks);
 }
 
@@ -128,21 +166,21 @@ fn sure_start(
     n: usize,
     m: usize,
     t: usize,
-    a: usize,
-    b: usize,
-    c: u32,
+    node: NodeWords,
     marks: &mut [u8],
     numbers: &mut [u32],
 )
-    requires { ⌜ Lent (now chart) n m t (now marks) (now numbers) × Until t a b c ⌝ }
+    requires { ⌜ Lent (now chart) n m t (now marks) (now numbers) × Lower t node ⌝ }
     ensures { λ _. ⌜ Wrote n t
-        (ask (plainRow (chartOf (now (chart .entry)) .arrows) n (mark n (now (marks .entry)) a) (mark n (now (marks .entry)) b)))
+        (ask (plainRow (chartOf (now (chart .entry)) .arrows) n
+        (mark n (now (marks .entry)) (node .a)) (mark n (now (marks .entry)) (node .b))))
         (now (marks .entry)) (now (marks .exit))
         × (now (numbers .exit) ≡
-        sureStart (chartOf (now (chart .entry)) .arrows) n (mark n (now (marks .entry)) a) (mark n (now (marks .entry)) b) c) ⌝ }
+        sureStart (chartOf (now (chart .entry)) .arrows) n
+        (mark n (now (marks .entry)) (node .a)) (mark n (now (marks .entry)) (node .b)) (node .c)) ⌝ }
 {
-    unhindered(chart, n, m, t, a, b, true, n as u32, marks, numbers);
-    fill::fill_numbers(Base::Stay(c), n, a, b, marks, numbers);
+    unhindered(true, n as u32, chart, n, m, t, node, marks, numbers);
+    fill::fill_numbers(Base::Stay(node.c), n, node.a, node.b, marks, numbers);
     let at = t * n;
     let end = at + n;
     fill::clear_unsure(chart, n, m, &marks[at..end], numbers);
@@ -154,77 +192,55 @@ fn all_at_least(
     n: usize,
     m: usize,
     t: usize,
-    a: usize,
-    b: usize,
-    c: u32,
+    node: NodeWords,
     marks: &mut [u8],
     numbers: &mut [u32],
 )
-    requires { ⌜ Lent (now chart) n m t (now marks) (now numbers) × Until t a b c × (0 < c) ⌝ }
+    requires { ⌜ Lent (now chart) n m t (now marks) (now numbers) × Lower t node ⌝ }
+    requires { ⌜ (node .c < 65536) × (0 < node .c) ⌝ }
     ensures { λ _. ⌜ Wrote n t
-        (ask (allRow (chartOf (now (chart .entry)) .arrows) n (atLeast c) (mark n (now (marks .entry)) a) (mark n (now (marks .entry)) b)))
+        (ask (allRow (chartOf (now (chart .entry)) .arrows) n (atLeast (node .c))
+        (mark n (now (marks .entry)) (node .a)) (mark n (now (marks .entry)) (node .b))))
         (now (marks .entry)) (now (marks .exit)) ⌝ }
 {
-    sure_start(chart, n, m, t, a, b, c, marks, numbers);
-    fill::fill(Mix::Yes, n, t, a, b, marks);
-    let at = t * n;
-    let end = at + n;
-    engine::least(chart, n, m, &marks[at..end], numbers);
-    fill::judge(true, c - 1, n, t, numbers, marks);
+    sure_start(chart, n, m, t, node, marks, numbers);
+    descend(Mix::Yes, chart, n, m, t, node, marks, numbers);
+    fill::judge(true, node.c - 1, n, t, numbers, marks);
 }
 
-// A(a until b), with c and its kind.
-fn all_until(
+// An until, by its operation, its kind of bound and c.
+fn until(
     chart: &[u8],
     n: usize,
     m: usize,
     t: usize,
-    a: usize,
-    b: usize,
-    kind: u8,
-    c: u32,
+    node: NodeWords,
     marks: &mut [u8],
     numbers: &mut [u32],
 )
-    requires { ⌜ Lent (now chart) n m t (now marks) (now numbers) × Until t a b c ⌝ }
+    requires { ⌜ Lent (now chart) n m t (now marks) (now numbers) × Lower t node × (node .c < 65536) ⌝ }
     ensures { λ _. ⌜ Wrote n t
-        (ask (allRow (chartOf (now (chart .entry)) .arrows) n (boundOf kind c) (mark n (now (marks .entry)) a) (mark n (now (marks .entry)) b)))
+        (ask (untilRow (node .operation) (chartOf (now (chart .entry)) .arrows) n (boundOf (node .kind) (node .c))
+        (mark n (now (marks .entry)) (node .a)) (mark n (now (marks .entry)) (node .b))))
         (now (marks .entry)) (now (marks .exit)) ⌝ }
 {
-    if kind == 1 {
-        unhindered(chart, n, m, t, a, b, false, c + 1, marks, numbers);
+    if node.operation == 5 {
+        if node.kind == 1 {
+            some_at_most(chart, n, m, t, node, marks, numbers);
+            return;
+        }
+        some_at_least(chart, n, m, t, node, marks, numbers);
         return;
     }
-    if c == 0 {
-        unhindered(chart, n, m, t, a, b, true, n as u32, marks, numbers);
+    if node.kind == 1 {
+        unhindered(false, node.c + 1, chart, n, m, t, node, marks, numbers);
         return;
     }
-    all_at_least(chart, n, m, t, a, b, c, marks, numbers);
-}
-
-// E(a until b), with c and its kind.
-fn some_until(
-    chart: &[u8],
-    n: usize,
-    m: usize,
-    t: usize,
-    a: usize,
-    b: usize,
-    kind: u8,
-    c: u32,
-    marks: &mut [u8],
-    numbers: &mut [u32],
-)
-    requires { ⌜ Lent (now chart) n m t (now marks) (now numbers) × Until t a b c ⌝ }
-    ensures { λ _. ⌜ Wrote n t
-        (ask (someRow (chartOf (now (chart .entry)) .arrows) n (boundOf kind c) (mark n (now (marks .entry)) a) (mark n (now (marks .entry)) b)))
-        (now (marks .entry)) (now (marks .exit)) ⌝ }
-{
-    if kind == 1 {
-        some_at_most(chart, n, m, t, a, b, c, marks, numbers);
+    if node.c == 0 {
+        unhindered(true, n as u32, chart, n, m, t, node, marks, numbers);
         return;
     }
-    some_at_least(chart, n, m, t, a, b, c, marks, numbers);
+    all_at_least(chart, n, m, t, node, marks, numbers);
 }
 
 // Node t's own row, where those of its operands are right.
@@ -243,31 +259,25 @@ pub fn settle_node(
         (now (marks .entry)) (now (marks .exit)) ⌝ }
 {
     let node = rule::node_at(rule, t);
-    let a = node.a;
-    let b = node.b;
     if node.operation == 0 {
         fill::fill(Mix::Yes, n, t, t, t, marks);
         return;
     }
     if node.operation == 1 {
-        fill::fill_label(chart, n, a, t, marks);
+        fill::fill_label(chart, n, node.a, t, marks);
         return;
     }
     if node.operation == 2 {
-        fill::fill(Mix::Not, n, t, a, a, marks);
+        fill::fill(Mix::Not, n, t, node.a, node.a, marks);
         return;
     }
     if node.operation == 3 {
-        fill::fill(Mix::And, n, t, a, b, marks);
+        fill::fill(Mix::And, n, t, node.a, node.b, marks);
         return;
     }
     if node.operation == 4 {
-        fill::fill(Mix::Or, n, t, a, b, marks);
+        fill::fill(Mix::Or, n, t, node.a, node.b, marks);
         return;
     }
-    if node.operation == 5 {
-        some_until(chart, n, m, t, a, b, node.kind, node.c, marks, numbers);
-        return;
-    }
-    all_until(chart, n, m, t, a, b, node.kind, node.c, marks, numbers);
+    until(chart, n, m, t, node, marks, numbers);
 }

@@ -1,5 +1,4 @@
 -- Each operation writes the row of its formula, by the laws of Settled.
-use mathlib.Core.Path.{_≡_}
 use Prim.Native.Nat.{_+_, _*_, _≤_}
 use native.Mathlib.Omega.{arith}
 use lib.ListN.{length}
@@ -7,16 +6,15 @@ use borrow.Author.Needs.{needs}
 use denote.Ref.{now}
 use Rattle.chart.proofs.Reading.{shaped}
 use Rattle.rule.proofs.Accepted.{accepted}
-use Rattle.rule.proofs.Read.{Node, known, label-low, a-lower, b-lower}
-use Rattle.nodes.specs.Parts.{Until}
+use Rattle.rule.proofs.Read.{Node, label-low, a-lower, b-lower}
+use Rattle.nodes.specs.Parts.{Lower}
 use Rattle.nodes.proofs.Settled.{
   settled-always,
   settled-label,
   settled-not,
   settled-and,
   settled-or,
-  settled-some,
-  settled-all,
+  settled-until,
 }
 use Rattle.nodes.proofs.settle_node.Statement.{statement}
 use Rattle.nodes.proofs.settle_node.Tie as tie
@@ -37,9 +35,6 @@ read4 c = read3 (c .before .before)
 abbrev read5 : tie.After-struct-known5 → tie.After-node-at
 read5 c = read4 (c .before .before)
 
-abbrev read6 : tie.After-struct-known6 → tie.After-node-at
-read6 c = read5 (c .before .before)
-
 module _ (c : tie.After-node-at) where
   abbrev start : tie.Start
   start = c .before .before .before .before .before
@@ -52,34 +47,23 @@ module _ (c : tie.After-node-at) where
 
   -- two operands: their rows are lower
   module _ (two : 3 ≤ c .node-at .result .operation) where
-    until : Until (start .args .t) (c .node-at .result .a) (c .node-at .result .b) (c .node-at .result .c)
-    until =
-        record { left = a-lower node (omega (arith, two)); right = b-lower node two; bound = c .node-at .ensures .1 .c }
+    low : Lower (start .args .t) (c .node-at .result)
+    low = record { left = a-lower node (omega (arith, two)); right = b-lower node two }
 
     lower :
         (start .args .t * start .args .n + start .args .n ≤ length (now (start .args .marks))) ×
         (c .node-at .result .a ≤ start .args .t) ×
         (c .node-at .result .b ≤ start .args .t)
-    lower = (start .pre .0 .0 .table, omega (arith, until .left), omega (arith, until .right))
+    lower = (start .pre .0 .0 .table, omega (arith, low .left), omega (arith, low .right))
 
--- an operation that is none of the others
-last-operation : (c : tie.Else6) → read6 (c .before) .node-at .result .operation ≡ 6
-last-operation c =
-    let else5 = c .before .before in
-    let else4 = else5 .before .before in
+-- an operation that is none of the first five
+above : (c : tie.Else5) → 5 ≤ read5 (c .before) .node-at .result .operation
+above c =
+    let else4 = c .before .before in
     let else3 = else4 .before .before in
     let else2 = else3 .before .before in
     let else1 = else2 .before .before in
-    omega (
-      arith,
-      known (node (read6 (c .before))),
-      else1 .if1 .left,
-      else2 .if2 .left,
-      else3 .if3 .left,
-      else4 .if4 .left,
-      else5 .if5 .left,
-      c .if6 .left,
-    )
+    omega (arith, else1 .if1 .left, else2 .if2 .left, else3 .if3 .left, else4 .if4 .left, c .if5 .left)
 
 node-at-requires : tie.Need-node-at-requires
 node-at-requires c κs =
@@ -87,7 +71,7 @@ node-at-requires c κs =
     omega (arith, accepted _ (w .unrefused) .shape .whole, w .inside)
 
 fill-requires : tie.Need-fill-requires
-fill-requires c κs = (start (read1 (c .before .before)) .pre .0 .0 .table, omega arith, omega arith)
+fill-requires c κs = search needs
 
 same-length : tie.Need-same-length
 same-length c = search needs
@@ -164,11 +148,11 @@ returns-5 c =
     let p = start read .pre in
     settled-or (p .0 .0 .passed) (node read) (p .1) (test .if5 .taken) (ran .fill4 .ensures)
 
-some-until-requires : tie.Need-some-until-requires
-some-until-requires c κs =
-    let test = c .before .before in
-    let read = read6 (test .before) in
-    (start read .pre .0 .0, until read (omega (arith, test .if6 .taken)))
+until-requires : tie.Need-until-requires
+until-requires c κs =
+    let none = c .before .before in
+    let read = read5 (none .before) in
+    (start read .pre .0 .0, low read (omega (arith, above none)), read .node-at .ensures .1 .c)
 
 same-length-6 : tie.Need-same-length-6
 same-length-6 c = search needs
@@ -179,30 +163,10 @@ same-length-7 c = search needs
 returns-6 : tie.Need-returns-6
 returns-6 c =
     let ran = c .before .before .before .before in
-    let test = ran .before .before .before in
-    let read = read6 (test .before) in
+    let none = ran .before .before .before in
+    let read = read5 (none .before) in
     let p = start read .pre in
-    settled-some (p .0 .0 .passed) (node read) (p .1) (test .if6 .taken) (ran .some-until .ensures)
-
-all-until-requires : tie.Need-all-until-requires
-all-until-requires c κs =
-    let test = c .before .before in
-    let read = read6 (test .before) in
-    (start read .pre .0 .0, until read (omega (arith, last-operation test)))
-
-same-length-8 : tie.Need-same-length-8
-same-length-8 c = search needs
-
-same-length-9 : tie.Need-same-length-9
-same-length-9 c = search needs
-
-returns-7 : tie.Need-returns-7
-returns-7 c =
-    let ran = c .before .before .before .before in
-    let test = ran .before .before .before in
-    let read = read6 (test .before) in
-    let p = start read .pre in
-    settled-all (p .0 .0 .passed) (node read) (p .1) (last-operation test) (ran .all-until .ensures)
+    settled-until (p .0 .0 .passed) (node read) (p .1) (above none) (ran .until .ensures)
 
 pub settle-node-spec : {M : Type 1} → statement M
 settle-node-spec =
@@ -224,11 +188,7 @@ settle-node-spec =
     fill-requires-4
     same-length-5
     returns-5
-    some-until-requires
+    until-requires
     same-length-6
     same-length-7
-    returns-6
-    all-until-requires
-    same-length-8
-    same-length-9
-    returns-7)
+    returns-6)

@@ -3,12 +3,12 @@ use mathlib.Core.Path.{_∙_}
 use mathlib.Core.Bool.{Bool, false}
 use Prim.Native.Nat.{ℕ}
 use native.Mathlib.Omega.{arith}
-use borrow.Author.Needs.{needs}
 use denote.Ref.{now}
+use borrow.Author.Needs.{needs}
 use Rattle.model.specs.Marks.{mark}
 use Rattle.chart.proofs.Reading.{shaped}
-use Rattle.nodes.proofs.Rows.{lent-size, written-as, lent-written, lower-row}
-use Rattle.nodes.proofs.Lent.{joins, unbounded, rows-inside}
+use Rattle.nodes.proofs.Rows.{written-as, lent-written, lower-row}
+use Rattle.nodes.proofs.Lent.{joins, rows-inside}
 use Rattle.nodes.proofs.Untils.{plain-answers, starts-sure}
 use Rattle.nodes.proofs.sure_start.Statement.{statement}
 use Rattle.nodes.proofs.sure_start.Tie as tie
@@ -19,14 +19,18 @@ cast-unhindered c = omega (arith, shaped (c .before .before .before .pre .0 .pas
 unhindered-requires : tie.Need-unhindered-requires
 unhindered-requires c κs =
     let p = c .before .before .before .before .before .pre in
-    (p .0, unbounded (p .1), omega (arith, shaped (p .0 .passed) .few-states))
+    (p .0, p .1, omega (arith, shaped (p .0 .passed) .few-states))
 
 fill-numbers-requires : tie.Need-fill-numbers-requires
 fill-numbers-requires c κs =
     let plain = c .before .before .before .before .before .before in
     let p = plain .before .before .before .before .before .before .pre in
-    let size = plain .unhindered .kept .1 .1 .1 .1 .1 .1 .1 .1 .1 .0 ∙ p .0 .size in
-    rows-inside _ (p .1) size (omega (arith, plain .unhindered .ensures .size, p .0 .table))
+    let old = rows-inside _ (p .1) (p .0 .size) (p .0 .table) in
+    let size = plain .unhindered .ensures .size in (
+      plain .unhindered .kept .1 .1 .1 .1 .1 .1 .1 .1 .0 ∙ old .0,
+      omega (arith, size, old .1, old .2),
+      omega (arith, size, old .1, old .2),
+    )
 
 mul-at : tie.Need-mul-at
 mul-at c = search needs
@@ -44,10 +48,7 @@ part-clear-unsure-end : tie.Need-part-clear-unsure-end
 part-clear-unsure-end c = search needs
 
 clear-unsure-requires : tie.Need-clear-unsure-requires
-clear-unsure-requires c κs =
-    let plain = c .before .before .before .before .before .before .before .before .before .before .before .before in
-    let p = plain .before .before .before .before .before .before .pre in
-    (p .0 .passed, lent-size (plain .unhindered .ensures) (p .0 .table), search needs)
+clear-unsure-requires c κs = search needs
 
 same-length : tie.Need-same-length
 same-length c = search needs
@@ -65,8 +66,9 @@ returns c =
     let holds : ℕ → ℕ → Bool = mark (start .args .n) (now (start .args .marks)) in
     let wrote = written-as (plain .unhindered .ensures) (plain-answers _ _ _ _) in (
       wrote,
-      starts-sure (joins (p .0 .passed) false) (holds (start .args .a)) (holds (start .args .b)) (lent-written wrote) _
-          (lower-row wrote (p .1 .left)) (stayed .fill-numbers .ensures) (cleared .clear-unsure .ensures),
+      starts-sure (joins (p .0 .passed) false) (holds (start .args .node .a)) (holds (start .args .node .b))
+          (lent-written wrote) _ (lower-row wrote (p .1 .left)) (stayed .fill-numbers .ensures)
+          (cleared .clear-unsure .ensures),
     )
 
 pub sure-start-spec : {M : Type 1} → statement M

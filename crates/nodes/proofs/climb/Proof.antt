@@ -1,0 +1,71 @@
+-- The numbers and row t are filled from the marks as they came, and the rounds through row t are the model's.
+use borrow.Author.Needs.{needs}
+use Rattle.nodes.proofs.Rows.{lent-written}
+use Rattle.nodes.proofs.Lent.{joins, numbered, rows-inside}
+use Rattle.nodes.proofs.Untils.{is-greatest}
+use Rattle.nodes.proofs.climb.Statement.{statement}
+use Rattle.nodes.proofs.climb.Tie as tie
+
+fill-numbers-requires : tie.Need-fill-numbers-requires
+fill-numbers-requires c κs =
+    let p = c .before .before .before .before .before .pre in
+    rows-inside _ (p .0 .1) (p .0 .0 .size) (p .0 .0 .table)
+
+fill-requires : tie.Need-fill-requires
+fill-requires c κs = search needs
+
+mul-at : tie.Need-mul-at
+mul-at c = search needs
+
+add-end : tie.Need-add-end
+add-end c = search needs
+
+sub-greatest : tie.Need-sub-greatest
+sub-greatest c = search needs
+
+part-greatest-start : tie.Need-part-greatest-start
+part-greatest-start c = search needs
+
+part-greatest-end : tie.Need-part-greatest-end
+part-greatest-end c = search needs
+
+greatest-requires : tie.Need-greatest-requires
+greatest-requires c κs =
+    let filled = c .before .before .before .before .before in
+    let based = filled .before .before .before .before in
+    let p = based .before .before .before .before .before .before .pre in
+    let vs = numbered (based .fill-numbers .ensures) (λ s. p .1 .1 _ _) in
+    (record { passed = p .0 .0 .passed; row = search needs; numbers = vs }, p .1 .0)
+
+same-length : tie.Need-same-length
+same-length c = search needs
+
+same-length-2 : tie.Need-same-length-2
+same-length-2 c = search needs
+
+returns : tie.Need-returns
+returns c =
+    let run = c .before .before in
+    let filled = run .before .before .before .before .before .before in
+    let based = filled .before .before .before .before in
+    let start = based .before .before .before .before .before .before in (
+      filled .fill .ensures,
+      is-greatest (joins (start .pre .0 .0 .passed) (start .args .way .ticks)) (lent-written (filled .fill .ensures))
+          _ _ (based .fill-numbers .ensures) (run .greatest .ensures),
+    )
+
+pub climb-spec : {M : Type 1} → statement M
+climb-spec =
+    tie.close
+    (tie.spec
+    fill-numbers-requires
+    fill-requires
+    mul-at
+    add-end
+    sub-greatest
+    part-greatest-start
+    part-greatest-end
+    greatest-requires
+    same-length
+    same-length-2
+    returns)
