@@ -19,7 +19,11 @@ use Rattle.rule.specs.Formula.{formulaAt}
 use Rattle.nodes.specs.Parts.{Right}
 use Rattle.checker.specs.Check.{marksOf, Tells}
 
--- past a new front the old list stands
+-- a new front as long as the old one keeps the length, and past it the old list stands
+pub front-size :
+    (front old : List ℕ) (size : ℕ) → length front ≡ size → size ≤ length old → length (front ++ drop size old) ≡ length old
+front-size front old size e l = omega (arith, length-append front (drop size old), length-drop size old)
+
 pub past-front :
     (front old : List ℕ) (size : ℕ) → length front ≡ size → (j : ℕ) → size ≤ j →
     getD (front ++ drop size old) j 0 ≡ getD old j 0
@@ -67,7 +71,7 @@ module _ (chart rule : List ℕ) where
       marks = marksOf chart rule
 
       whole : length new ≡ length (marks ++ drop size old)
-      whole = omega (arith, same, room, length-append marks (drop size old), marks-length, length-drop size old)
+      whole = same ∙ sym (front-size marks old size marks-length room)
 
       turn : (j : ℕ) (b : Bool) → leb size j ≡ b → getD new j 0 ≡ getD (marks ++ drop size old) j 0
       turn j false e =

@@ -1,32 +1,46 @@
 -- What check's promise says by cases: accepted or refused, and refused with 19 or otherwise.
-use mathlib.Core.Path.{_≡_, _∙_}
-use mathlib.Core.Logic.{_⊎_, inl, inr}
+use mathlib.Core.Path.{_≡_, refl, sym, ap, _∙_}
+use mathlib.Core.Logic.{_⊎_, inl, inr, by-cases}
 use mathlib.Core.List.{List, _++_}
-use Prim.Native.Nat.{ℕ, _*_}
+use Prim.Native.Nat.{ℕ, _*_, _≤_}
+use native.Mathlib.Decide.{ℕ-discrete}
+use native.Mathlib.Omega.{arith}
 use lib.ListN.{drop, replicate}
 use borrow.Author.Tests.{eq-eqb, ne-eqb}
 use Rattle.outcome.specs.declared.Outcome.{Outcome}
-use Rattle.outcome.proofs.First.{part-zero, zero-iff}
+use Rattle.outcome.specs.Refusal.{Row, first}
 use Rattle.chart.specs.Bytes.{stateCount}
 use Rattle.rule.specs.Bytes.{nodeCount}
-use Rattle.checker.specs.Check.{scratchSize, checkTable, marksOf, marksAfter, scratchAfter, Checked}
-use Rattle.checker.proofs.Chain.{Admitted, admitted, check-iff, check-numbered}
+use Rattle.checker.specs.Check.{scratchSize, marksOf, marksAfter, scratchAfter, Checked}
+use Rattle.checker.specs.Parts.{inputTable}
+use Rattle.checker.proofs.Chain.{Admitted, input-refuses, input-number, input-passes}
 
 module _ {chart rule marks scratch : List ℕ} {r : Outcome} {newMarks newScratch : List ℕ}
     (c : Checked chart rule marks scratch r newMarks newScratch) where
   abbrev size : ℕ
   size = scratchSize (stateCount chart)
 
-  module _ (z : r .number ≡ 0) where
-    pub accepted-admitted : Admitted chart rule marks scratch
-    accepted-admitted =
-        let table = checkTable chart rule marks scratch in
-        let unmet = zero-iff table (check-numbered chart rule marks scratch) .0 (part-zero table (c .answer) z) in
-        admitted chart rule marks scratch (check-iff chart rule marks scratch .0 unmet .0)
+  -- Scratch is cleared only where rows 1 to 18 are passed: these answer 18 at most, and no 0 where one is met.
+  pub cleared-admitted : (r .number ≡ 0) ⊎ (r .number ≡ 19) → Admitted chart rule marks scratch
+  cleared-admitted w =
+      by-cases (ℕ-discrete (first inputs .number) 0)
+      (λ z. input-passes chart rule marks scratch refl z)
+      (λ h.
+      let same = ap (λ (o : Outcome). o .number) (c .answer ∙ sym (input-refuses chart rule marks scratch refl h)) in
+      absurd (neither w h same (input-number chart rule marks scratch refl)))
+    where
+      inputs : List Row
+      inputs = inputTable chart rule marks scratch
 
-    pub accepted-marks : newMarks ≡ marksOf chart rule ++ drop (nodeCount rule * stateCount chart) marks
-    unfolding marksAfter
-    accepted-marks = c .written ∙ simp (eq-eqb _ _ z)
+      neither :
+          (r .number ≡ 0) ⊎ (r .number ≡ 19) → ¬ (first inputs .number ≡ 0) → r .number ≡ first inputs .number →
+          first inputs .number ≤ 18 → ⊥
+      neither (inl z) h e l = h (sym e ∙ z)
+      neither (inr z) h e l = omega arith
+
+  pub accepted-marks : r .number ≡ 0 → newMarks ≡ marksOf chart rule ++ drop (nodeCount rule * stateCount chart) marks
+  unfolding marksAfter
+  accepted-marks z = c .written ∙ simp (eq-eqb _ _ z)
 
   pub refused-marks : ¬ (r .number ≡ 0) → newMarks ≡ marks
   unfolding marksAfter

@@ -1,11 +1,11 @@
 -- Check: the first demand and the second, from its promise alone.
-use mathlib.Core.Path.{_≡_, sym, ap, subst, _∙_}
+use mathlib.Core.Path.{_≡_, refl, sym, ap, subst, _∙_}
 use mathlib.Core.Logic.{_↔_, _⊎_, inl, inr, Iff·symm, Iff·trans, by-cases}
 use mathlib.Core.List.{List, [], _∷_, _++_}
-use Prim.Native.Nat.{ℕ, _*_, _≤_, _<_}
+use Prim.Native.Nat.{ℕ, _*_, _<_}
 use native.Mathlib.Decide.{ℕ-discrete}
 use native.Mathlib.Omega.{arith}
-use lib.ListN.{getD, drop, replicate, length-replicate, getD-replicate, List·getD-append}
+use lib.ListN.{length, getD, drop, replicate, length-replicate, getD-replicate, List·getD-append}
 use Rattle.outcome.specs.Refusal.{Row, success, refusal}
 use Rattle.outcome.specs.Met.{Unmet, FirstMet}
 use Rattle.outcome.proofs.First.{success-iff, first-iff}
@@ -20,8 +20,8 @@ use Rattle.loops.proofs.Accepted.{unmet-iff}
 use Rattle.checker.specs.Check.{scratchSize, checkTable, checkRefusal, marksOf}
 use Rattle.checker.specs.Parts.{inputTable}
 use Rattle.checker.proofs.Chain.{check-numbered, input-iff, check-iff, room-iff}
-use Rattle.checker.proofs.Marks.{past-front, marks-length}
-use Rattle.checker.proofs.Promise.{accepted-marks, refused-marks, cleared-scratch, refused-scratch}
+use Rattle.checker.proofs.Marks.{front-size, past-front, marks-length}
+use Rattle.checker.proofs.Promise.{cleared-admitted, accepted-marks, refused-marks, cleared-scratch, refused-scratch}
 use Rattle.demands.specs.FirstDemand.{Acceptable, FirstDemand}
 use Rattle.demands.specs.SecondDemand.{SecondDemand}
 
@@ -72,6 +72,7 @@ check-unbroken chart rule marks scratch r newMarks newScratch c =
       accepts =
           subst (λ o. (o ≡ success) ↔ Acceptable chart rule marks scratch) (sym (c .answer))
           (check-accepts chart rule marks scratch);
+      sizes = (marks-size, scratch-size);
       later-kept = λ j l.
           by-cases (ℕ-discrete (r .number) 0)
           (λ z. ap (λ m. getD m j 0) (accepted-marks c z) ∙
@@ -79,12 +80,8 @@ check-unbroken chart rule marks scratch r newMarks newScratch c =
           (λ h. ap (λ m. getD m j 0) (refused-marks c h));
       marks-kept = refused-marks c;
       cleared = λ w i l. ap (λ m. getD m i 0) (cleared-scratch c w) ∙ zero-at i l;
-      beyond = λ i l.
-          by-cases (ℕ-discrete (r .number) 0)
-          (λ z. past (inl z) i l)
-          (λ h. by-cases (ℕ-discrete (r .number) 19)
-          (λ z. past (inr z) i l)
-          (λ k. ap (λ m. getD m i 0) (refused-scratch c h k)));
+      beyond = λ i l. scratch-by (λ s. getD s i 0 ≡ getD scratch i 0) refl
+          (λ w. past-front zeros scratch size (length-replicate {A = ℕ} size 0) i l);
       scratch-kept = refused-scratch c;
     }
   where
@@ -97,12 +94,33 @@ check-unbroken chart rule marks scratch r newMarks newScratch c =
     size : ℕ
     size = scratchSize (stateCount chart)
 
-    zero-at : (i : ℕ) → i < size → getD (replicate size 0 ++ drop size scratch) i 0 ≡ 0
+    zeros : List ℕ
+    zeros = replicate size 0
+
+    zero-at : (i : ℕ) → i < size → getD (zeros ++ drop size scratch) i 0 ≡ 0
     zero-at i l =
-        List·getD-append (replicate size 0) (drop size scratch) 0 i (omega (arith, length-replicate {A = ℕ} size 0)) ∙
+        List·getD-append zeros (drop size scratch) 0 i (omega (arith, length-replicate {A = ℕ} size 0)) ∙
         getD-replicate size i 0 0 l
 
-    past : (r .number ≡ 0) ⊎ (r .number ≡ 19) → (i : ℕ) → size ≤ i → getD newScratch i 0 ≡ getD scratch i 0
-    past w i l =
-        ap (λ m. getD m i 0) (cleared-scratch c w) ∙
-        past-front (replicate size 0) scratch size (length-replicate {A = ℕ} size 0) i l
+    -- scratch is as lent, or cleared
+    scratch-by :
+        (P : List ℕ → Type 0) → P scratch → ((r .number ≡ 0) ⊎ (r .number ≡ 19) → P (zeros ++ drop size scratch)) →
+        P newScratch
+    scratch-by P kept cleared =
+        by-cases (ℕ-discrete (r .number) 0)
+        (λ z. subst P (sym (cleared-scratch c (inl z))) (cleared (inl z)))
+        (λ h. by-cases (ℕ-discrete (r .number) 19)
+        (λ z. subst P (sym (cleared-scratch c (inr z))) (cleared (inr z)))
+        (λ k. subst P (sym (refused-scratch c h k)) kept))
+
+    scratch-size : length newScratch ≡ length scratch
+    scratch-size =
+        scratch-by (λ s. length s ≡ length scratch) refl
+        (λ w. front-size zeros scratch size (length-replicate {A = ℕ} size 0) (cleared-admitted c w .room))
+
+    marks-size : length newMarks ≡ length marks
+    marks-size =
+        by-cases (ℕ-discrete (r .number) 0)
+        (λ z. ap (λ (m : List ℕ). length m) (accepted-marks c z) ∙
+        front-size (marksOf chart rule) marks kn (marks-length chart rule) (cleared-admitted c (inl z) .table))
+        (λ h. ap (λ (m : List ℕ). length m) (refused-marks c h))

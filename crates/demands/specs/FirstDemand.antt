@@ -28,6 +28,8 @@ pub record Unbroken (chart rule marks scratch : List ℕ) (r : Outcome) (newMark
   pub refuses : (n p : ℕ) → 0 < n → (r ≡ refusal n p) ↔ FirstMet (checkTable chart rule marks scratch) n p
   -- "Success is number 0, place 0."
   pub accepts : (r ≡ success) ↔ Acceptable chart rule marks scratch
+  -- nothing is added to what was lent, or taken from it
+  pub sizes : (length newMarks ≡ length marks) × (length newScratch ≡ length scratch)
   -- "later bytes keep their content"
   pub later-kept : (j : ℕ) → nodeCount rule * stateCount chart ≤ j → getD newMarks j 0 ≡ getD marks j 0
   -- "The marks table is as lent after every refusal."

@@ -1,5 +1,6 @@
 -- What the answer of the check tells of the text that is printed.
 use mathlib.Core.Path.{_≡_, ap, _∙_}
+use mathlib.Core.Logic.{inl}
 use mathlib.Core.List.{List}
 use Prim.Native.Nat.{ℕ, _*_, _≤_, _<_}
 use native.Mathlib.Omega.{arith}
@@ -15,7 +16,7 @@ use Rattle.rule.specs.Shape as rule-shape
 use Rattle.rule.proofs.Accepted.{accepted}
 use Rattle.checker.specs.Check.{marksOf, Checked}
 use Rattle.checker.proofs.Marks.{marks-length}
-use Rattle.checker.proofs.Promise.{accepted-admitted, accepted-marks}
+use Rattle.checker.proofs.Promise.{cleared-admitted, accepted-marks}
 use Rattle.listing.specs.Text.{listing, refusedLine}
 use Rattle.listing.proofs.Same.{listing-same}
 use Rattle.desk_call.specs.Printed.{lentMarks, lentScratch, textOf, printed}
@@ -34,10 +35,10 @@ module _
     module _ (z : r .number ≡ 0) where
       -- the chart and the rule have the shape that was asked for
       pub chart-shaped : chart-shape.Shape chart (stateCount chart) (arrowCount chart)
-      chart-shaped = well-formed chart (accepted-admitted told z .of-chart) .shape
+      chart-shaped = well-formed chart (cleared-admitted told (inl z) .of-chart) .shape
 
       pub rule-shaped : rule-shape.Shape rule (nodeCount rule)
-      rule-shaped = accepted rule (accepted-admitted told z .of-rule) .shape
+      rule-shaped = accepted rule (cleared-admitted told (inl z) .of-rule) .shape
 
       -- 64 rows of 256 marks are enough
       pub few-marks : nodeCount rule * stateCount chart ≤ 16384

@@ -1,4 +1,4 @@
--- What the desk program prints of a chart's and a rule's bytes. The quoted sentences are of 01, on the desk program.
+-- What the desk program prints of a chart's and a rule's bytes.
 use mathlib.Core.Bool.{cond}
 use mathlib.Core.List.{List}
 use Prim.Native.Nat.{ℕ}

@@ -3,7 +3,6 @@ use mathlib.Core.Path.{_≡_, refl, sym, ap, subst, _∙_}
 use mathlib.Core.List.{List, [], _∷_, _++_}
 use Prim.Native.Nat.{ℕ, zero, suc, _+_, _*_, _-_, _≤_, _<_}
 use native.Mathlib.Omega.{arith}
-use native.Mathlib.Nat.{suc-mul, mul-le-mul-right}
 use lib.ListN.{length, getD, take, length-append}
 use lib.Seq.{take-suc, take-length}
 use Rattle.listing.specs.Text.{joined}
@@ -72,7 +71,3 @@ pub joined-same :
 unfolding joined
 joined-same zero f g h = refl
 joined-same (suc k) f g h = let e = joined-same k f g (λ i l. h i (omega arith)) in let d = h k (omega arith) in cc
-
--- row t of k rows of n marks lies inside
-pub row-inside : (t k n : ℕ) {size : ℕ} → t < k → k * n ≤ size → t * n + n ≤ size
-row-inside t k n l h = omega (arith, h, mul-le-mul-right n (let e : suc t ≤ k = omega arith in e), suc-mul t n)

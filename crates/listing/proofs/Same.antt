@@ -4,19 +4,9 @@ use mathlib.Core.List.{List, [], _∷_, _++_}
 use Prim.Native.Nat.{ℕ, _+_, _*_, _<_}
 use native.Mathlib.Omega.{arith}
 use lib.ListN.{getD}
-use Rattle.listing.specs.Text.{
-  statesWord,
-  nodesWord,
-  space,
-  newline,
-  decimal,
-  mark,
-  markLine,
-  nodeLine,
-  numbersLine,
-  listing,
-}
-use Rattle.listing.proofs.Joined.{joined-same, row-inside}
+use Rattle.listing.specs.Text.{statesWord, nodesWord, space, newline, decimal, mark, markLine, nodeLine, numbersLine, listing}
+use Rattle.listing.proofs.Joined.{joined-same}
+use Rattle.listing.proofs.Rows.{row-inside}
 
 module _ (n k : ℕ) (a b : List ℕ) (same : (i : ℕ) → i < k * n → getD a i 0 ≡ getD b i 0) where
   node-same : (t : ℕ) → t < k → nodeLine n a t ≡ nodeLine n b t

@@ -3,22 +3,7 @@ use mathlib.Core.List.{List, [], _∷_, _++_}
 use Prim.Native.Nat.{ℕ, suc, _+_, _*_, _^_, _≤_, _<_}
 use native.Mathlib.Omega.{arith}
 use lib.ListN.{length, getD, length-append}
-use Rattle.listing.specs.Text.{
-  statesWord,
-  nodesWord,
-  refusedWord,
-  atWord,
-  space,
-  newline,
-  decimal,
-  joined,
-  mark,
-  markLine,
-  nodeLine,
-  numbersLine,
-  listing,
-  refusedLine,
-}
+use Rattle.listing.specs.Text.{statesWord, nodesWord, refusedWord, atWord, space, newline, decimal, joined, mark, markLine, nodeLine, numbersLine, listing, refusedLine}
 use Rattle.listing.specs.Piece.{Room}
 use Rattle.listing.proofs.Joined.{joined-size}
 use Rattle.listing.proofs.Decimal.{decimal-size}

@@ -1,4 +1,5 @@
--- Which row of a table is the first that is met. The quoted sentence is of 01, "Refused with number and place".
+-- Which row of a table is the first that is met. The quoted words are of 01, "Refused with
+-- number and place".
 use mathlib.Core.Path.{_≡_}
 use mathlib.Core.List.{List, [], _∷_, _++_}
 use mathlib.Core.Option.{none, some}

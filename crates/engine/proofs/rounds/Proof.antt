@@ -1,4 +1,4 @@
--- Invariant: i rounds were made.
+-- Invariant: as many rounds were made as done says.
 use mathlib.Core.Path.{_≡_, _∙_}
 use Prim.Native.Nat.{_≤_, _-_}
 use native.Mathlib.Omega.{arith}

@@ -6,7 +6,8 @@ use denote.Ref.{now}
 use Rattle.listing.specs.Text.{joined, nodeLine}
 use Rattle.listing.specs.Piece.{Appended}
 use Rattle.listing.proofs.Append.{appended-size, appended-text}
-use Rattle.listing.proofs.Joined.{joined-none, joined-more, joined-room, row-inside}
+use Rattle.listing.proofs.Joined.{joined-none, joined-more, joined-room}
+use Rattle.listing.proofs.Rows.{row-inside}
 use Rattle.listing.proofs.put_nodes.Statement.{statement}
 use Rattle.listing.proofs.put_nodes.Tie as tie
 

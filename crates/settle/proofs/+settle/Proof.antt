@@ -1,3 +1,4 @@
+-- The operands' rows, then the node's own; the node number falls at each call.
 use mathlib.Core.Path.{refl, _∙_}
 use Prim.Native.Nat.{ℕ, _<_}
 use native.Mathlib.Omega.{arith}
