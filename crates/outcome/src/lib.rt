@@ -2,6 +2,8 @@
 ghost use mathlib.Core.Path.{_≡_};
 ghost use Rattle.outcome.specs.Refusal.{success, refusal};
 
+// Laid out as in C, for the calls that are exported.
+#[repr(C)]
 pub struct Outcome {
     pub number: u32,
     pub place: u32,

@@ -1,5 +1,6 @@
 // The call row: the part of the overview's or the detail's marks table that holds a row, itself and not a copy.
-ghost use Rattle.rows.specs.Row.{chosen, Part, placeOf};
+ghost use mathlib.Core.Path.{_≡_};
+ghost use Rattle.rows.specs.Row.{chosen, Part, placeOf, partOf};
 
 // Which of the two tables.
 pub enum Choice {
@@ -7,24 +8,42 @@ pub enum Choice {
     Detail,
 }
 
-// Row t of one table with n marks a row.
-fn part(table: &[u8], n: usize, t: usize) -> &[u8]
-    ensures { λ r. ⌜ Part (table .entry) r (placeOf (now (table .entry)) n t) ⌝ }
+// Where a part of a table begins, and how many bytes it has. Laid out as in C, for the call that is exported.
+#[repr(C)]
+pub struct Place {
+    pub start: usize,
+    pub size: usize,
+}
+
+// The place of row t in a table of length bytes with n marks a row.
+pub fn row_place(length: usize, n: usize, t: usize) -> Place
+    ensures { λ r. ⌜ r ≡ placeOf length n t ⌝ }
 {
     if n == 0 {
-        return &table[0..0];
+        return Place { start: 0, size: 0 };
     }
-    if table.len() / n <= t {
-        return &table[0..0];
+    if length / n <= t {
+        return Place { start: 0, size: 0 };
     }
-    let start = t * n;
-    let end = start + n;
+    Place {
+        start: t * n,
+        size: n,
+    }
+}
+
+// Row t of one table with n marks a row.
+fn part(table: &[u8], n: usize, t: usize) -> &[u8]
+    ensures { λ r. ⌜ Part (table .entry) r (partOf (now (table .entry)) n t) ⌝ }
+{
+    let at = row_place(table.len(), n, t);
+    let start = at.start;
+    let end = start + at.size;
     &table[start..end]
 }
 
 pub fn row<'a>(overview: &'a [u8], detail: &'a [u8], choice: Choice, n: usize, t: usize) -> &'a [u8]
     ensures { λ r. ⌜ Part (chosen choice (overview .entry) (detail .entry)) r
-        (placeOf (now (chosen choice (overview .entry) (detail .entry))) n t) ⌝ }
+        (partOf (now (chosen choice (overview .entry) (detail .entry))) n t) ⌝ }
 {
     match choice {
         Choice::Overview => part(overview, n, t),

@@ -1,0 +1,78 @@
+// The open calls for C and Rust, with the promises that they have themselves. What C has no form for crosses as numbers:
+// the kind of a rule, and the place of a row instead of the part itself.
+ghost use mathlib.Core.Path.{_≡_};
+ghost use Rattle.rows.specs.Row.{placeOf};
+ghost use Rattle.detail.specs.Refusals.{mapRefusal};
+ghost use Rattle.checker.specs.Check.{Checked};
+ghost use Rattle.ffi.specs.Coded.{code, Coded, sizeOf};
+use kind::Kind;
+use outcome::Outcome;
+use rows::Place;
+
+// What kind of rule answers, with the kind as its code.
+#[repr(C)]
+pub struct CodedAnswer {
+    pub outcome: Outcome,
+    pub kind: u32,
+}
+
+// The code of a kind.
+fn code_of(kind: Kind) -> u32
+    ensures { λ r. ⌜ r ≡ code kind ⌝ }
+{
+    match kind {
+        Kind::Neither => 0,
+        Kind::AllRuns => 1,
+        Kind::SomeRun => 2,
+        Kind::Both => 3,
+    }
+}
+
+#[no_mangle]
+pub extern "C" fn doilystrand_check(
+    chart: &[u8],
+    rule: &[u8],
+    marks: &mut [u8],
+    scratch: &mut [u32],
+) -> Outcome
+    ensures { λ r. ⌜ Checked (now (chart .entry)) (now (rule .entry)) (now (marks .entry)) (now (scratch .entry))
+        r (now (marks .exit)) (now (scratch .exit)) ⌝ }
+{
+    checker::check(chart, rule, marks, scratch)
+}
+
+#[no_mangle]
+pub extern "C" fn doilystrand_kind_of_rule(rule: &[u8]) -> CodedAnswer
+    ensures { λ r. ⌜ Coded (now (rule .entry)) r ⌝ }
+{
+    let answer = kind::kind_of_rule(rule);
+    let outcome = answer.outcome;
+    let kind = answer.kind;
+    let kind = code_of(kind);
+    CodedAnswer { outcome, kind }
+}
+
+#[no_mangle]
+pub extern "C" fn doilystrand_map_check(detail: &[u8], overview: &[u8], map: &[u8]) -> Outcome
+    ensures { λ r. ⌜ r ≡ mapRefusal (now (detail .entry)) (now (overview .entry)) (now (map .entry)) ⌝ }
+{
+    detail::map_check(detail, overview, map)
+}
+
+// Row's index form: the place of row t in the chosen table, of which only the length counts. The choice is 1, true, for the
+// detail.
+#[no_mangle]
+pub extern "C" fn doilystrand_row(
+    overview: usize,
+    detail: usize,
+    choice: bool,
+    n: usize,
+    t: usize,
+) -> Place
+    ensures { λ r. ⌜ r ≡ placeOf (sizeOf choice overview detail) n t ⌝ }
+{
+    if choice {
+        return rows::row_place(detail, n, t);
+    }
+    rows::row_place(overview, n, t)
+}

@@ -1,0 +1,75 @@
+/*
+ * The proved checker of timed rules over dispatch charts, for C.
+ *
+ * Link target/staticlib/libffi.a, which `rt staticlib ffi` writes. Every call takes any bytes, tests them itself and
+ * returns; what it promises stands in docs/PROMISES.md, and the formats and the numbers of refusals in README.md.
+ *
+ * What C has to see to: a pointer is to as many elements as the size after it says (it may be null where that is 0),
+ * and marks and scratch overlap nothing else that is lent.
+ */
+#ifndef DOILYSTRAND_H
+#define DOILYSTRAND_H
+
+#include <stdbool.h>
+#include <stddef.h>
+#include <stdint.h>
+
+#ifdef __cplusplus
+extern "C" {
+#endif
+
+/* Number and place of a refusal; both 0 on success. */
+typedef struct doilystrand_outcome {
+    uint32_t number;
+    uint32_t place;
+} doilystrand_outcome;
+
+/* A rule's kind. */
+enum {
+    DOILYSTRAND_NEITHER = 0,
+    DOILYSTRAND_ALL_RUNS = 1,
+    DOILYSTRAND_SOME_RUN = 2,
+    DOILYSTRAND_BOTH = 3
+};
+
+/* A rule's refusal, or success, and its kind; neither on a refusal. */
+typedef struct doilystrand_kind_answer {
+    doilystrand_outcome outcome;
+    uint32_t kind;
+} doilystrand_kind_answer;
+
+/* Where a part of a table begins, and how many bytes it has. */
+typedef struct doilystrand_place {
+    size_t start;
+    size_t size;
+} doilystrand_place;
+
+/*
+ * Marks every node of the rule at every state of the chart: byte t * n + s of marks is 1 if node t holds at state s,
+ * else 0. It wants k * n bytes of marks and 4n numbers of scratch. After acceptance and after refusal 19 the first 4n
+ * numbers are 0; everything else is left as lent.
+ */
+doilystrand_outcome doilystrand_check(const uint8_t *chart, size_t chart_size,
+                                      const uint8_t *rule, size_t rule_size,
+                                      uint8_t *marks, size_t marks_size,
+                                      uint32_t *scratch, size_t scratch_size);
+
+/* Whether a rule is of the all-runs kind, the some-run kind, both or neither. */
+doilystrand_kind_answer doilystrand_kind_of_rule(const uint8_t *rule, size_t rule_size);
+
+/* Whether the detail chart is one under the overview chart, by the map. */
+doilystrand_outcome doilystrand_map_check(const uint8_t *detail, size_t detail_size,
+                                          const uint8_t *overview, size_t overview_size,
+                                          const uint8_t *map, size_t map_size);
+
+/*
+ * Where row t lies in the overview's marks table (choice false) or the detail's (choice true), n marks a row; start and
+ * size are 0 if the row doesn't lie wholly in it.
+ */
+doilystrand_place doilystrand_row(size_t overview_size, size_t detail_size, bool choice, size_t n, size_t t);
+
+#ifdef __cplusplus
+}
+#endif
+
+#endif

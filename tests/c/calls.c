@@ -1,0 +1,90 @@
+/* Every call from C, on the customer's charts, on bytes that are refused, and on nothing at all. */
+#include "doilystrand.h"
+
+#include <stdio.h>
+#include <string.h>
+
+static int failures;
+
+static void expect(bool held, const char *what) {
+    if (!held) {
+        printf("calls: %s\n", what);
+        failures++;
+    }
+}
+
+static bool is(doilystrand_outcome o, uint32_t number, uint32_t place) {
+    return o.number == number && o.place == place;
+}
+
+/* Short: 0 to 1 in 5 to 10 minutes, 1 to 2 in 0 to 4, 2 to 0 in 20 to no end. */
+static const uint8_t short_chart[] = {1, 0, 0, 0, 39, 0, 3, 0, 3, 0, 1, 0, 2, 0, 4,
+                                      0, 0, 0, 1, 0, 5, 0, 10, 0, 1, 0, 2, 0, 0, 0, 4,
+                                      0, 2, 0, 0, 0, 20, 255, 255};
+
+/* A(true until L2, at most 13). */
+static const uint8_t rule[] = {1, 0, 0, 0, 31, 0, 3, 0, 0, 0, 0, 0, 0, 0, 0,
+                               1, 0, 0, 2, 0, 0, 0, 0, 6, 1, 0, 0, 0, 1, 0, 13};
+
+static const uint8_t identity[] = {1, 0, 0, 0, 13, 0, 3, 0, 0, 0, 1, 0, 2};
+
+static void marks_are_written(void) {
+    static const uint8_t listed[] = {1, 1, 1, 0, 0, 1, 0, 1, 1, 77};
+    uint8_t marks[10];
+    uint32_t scratch[13];
+    memset(marks, 77, sizeof marks);
+    for (int i = 0; i < 13; i++) scratch[i] = 7;
+    expect(is(doilystrand_check(short_chart, sizeof short_chart, rule, sizeof rule, marks, 10, scratch, 13), 0, 0),
+           "check refuses Short");
+    expect(memcmp(marks, listed, sizeof listed) == 0, "check writes other marks");
+    for (int i = 0; i < 12; i++) expect(scratch[i] == 0, "scratch is not cleared");
+    expect(scratch[12] == 7, "scratch is cleared past 4n numbers");
+}
+
+static void refusals_are_told(void) {
+    uint8_t marks[9];
+    uint32_t scratch[12];
+    expect(is(doilystrand_check(NULL, 0, rule, sizeof rule, marks, 9, scratch, 12), 1, 0), "an empty chart is not 1");
+    expect(is(doilystrand_check(short_chart, sizeof short_chart, NULL, 0, marks, 9, scratch, 12), 10, 0),
+           "an empty rule is not 10");
+    expect(is(doilystrand_check(short_chart, sizeof short_chart, rule, sizeof rule, NULL, 0, NULL, 0), 17, 0),
+           "an empty marks table is not 17");
+    expect(is(doilystrand_check(short_chart, sizeof short_chart, rule, sizeof rule, marks, 9, scratch, 11), 18, 0),
+           "11 numbers are not 18");
+}
+
+static void kinds_are_told(void) {
+    doilystrand_kind_answer a = doilystrand_kind_of_rule(rule, sizeof rule);
+    expect(is(a.outcome, 0, 0) && a.kind == DOILYSTRAND_ALL_RUNS, "A-until is not all-runs");
+    a = doilystrand_kind_of_rule(rule, 30);
+    expect(is(a.outcome, 12, 0) && a.kind == DOILYSTRAND_NEITHER, "a cut rule is not 12");
+    a = doilystrand_kind_of_rule(NULL, 0);
+    expect(is(a.outcome, 10, 0) && a.kind == DOILYSTRAND_NEITHER, "an empty rule is not 10");
+}
+
+static void maps_are_checked(void) {
+    size_t size = sizeof short_chart;
+    expect(is(doilystrand_map_check(short_chart, size, short_chart, size, identity, sizeof identity), 0, 0),
+           "Short is not one under itself");
+    expect(is(doilystrand_map_check(short_chart, size, short_chart, size, NULL, 0), 20, 0), "an empty map is not 20");
+    expect(is(doilystrand_map_check(short_chart, size, NULL, 0, NULL, 0), 41, 0), "an empty overview is not 41");
+}
+
+static void rows_are_found(void) {
+    doilystrand_place p = doilystrand_row(9, 12, true, 4, 2);
+    expect(p.start == 8 && p.size == 4, "row 2 of the detail's table");
+    p = doilystrand_row(9, 12, false, 4, 2);
+    expect(p.start == 0 && p.size == 0, "row 2 is not wholly in the overview's table");
+    p = doilystrand_row(9, 12, false, SIZE_MAX, SIZE_MAX);
+    expect(p.start == 0 && p.size == 0, "the greatest numbers");
+}
+
+int main(void) {
+    marks_are_written();
+    refusals_are_told();
+    kinds_are_told();
+    maps_are_checked();
+    rows_are_found();
+    if (failures == 0) printf("calls: from C as promised\n");
+    return failures != 0;
+}
