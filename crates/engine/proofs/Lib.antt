@@ -1,5 +1,6 @@
+pub mod Total
 pub mod Weights
 pub mod Limits
 pub mod Arrows
 pub mod Tried
-pub mod Repeated
+pub mod Sweeps

@@ -7,14 +7,15 @@ use native.Mathlib.Omega.{arith}
 use lib.ListN.{length}
 use Rattle.truth.proofs.Truth.{cond-elim}
 use Rattle.tctl.specs.Chart.{Arrow, Most}
-use Rattle.model.specs.Engine.{num, Numbers, round, rounds, offer}
+use Rattle.model.specs.Engine.{num, Numbers, round, offer}
+use Rattle.model.specs.Weighed.{weight, weighing}
 use Rattle.model.proofs.Numbers.{numbers-set}
-use Rattle.model.proofs.Rounds.{round-keeps, rounds-keep}
+use Rattle.model.proofs.Rounds.{round-keeps}
 use Rattle.model.proofs.Lower.{lower-elim}
 use Rattle.model.proofs.Raise.{offer-le, raise-elim}
 use Rattle.engine.specs.declared.Change.{Change}
 use Rattle.engine.specs.declared.Change.the-variants.{Lower, Raise}
-use Rattle.engine.specs.Change.{highest, weight, weighing, top, changeOf}
+use Rattle.engine.specs.Change.{highest, top, changeOf}
 use Rattle.engine.specs.Parts.{Lent}
 
 -- ── What is lent, with new numbers ──
@@ -50,12 +51,8 @@ module _ {n : ℕ} (go : ℕ → Bool) where
       offers : offer (climb .cap) most (num vs (a .end)) ≤ highest
       offers = omega (arith, offer-le (climb .cap) most (num vs (a .end)))
 
-  module _
-      (change : Change) (l : top change ≤ highest) (arrows : List Arrow) {vs : List ℕ} (h : Numbers n highest vs) where
-    pub round-limit : Numbers n highest (round (changeOf change go) arrows vs)
-    round-limit =
-        round-keeps (changeOf change go) (Numbers n highest) arrows (λ a m. change-limit change l a) vs h
-
-    pub rounds-limit : (k : ℕ) → Numbers n highest (rounds (changeOf change go) k arrows vs)
-    rounds-limit k =
-        rounds-keep (changeOf change go) (Numbers n highest) arrows (λ a m. change-limit change l a) k vs h
+  pub round-limit :
+      (change : Change) → top change ≤ highest → (arrows : List Arrow) {vs : List ℕ} → Numbers n highest vs →
+      Numbers n highest (round (changeOf change go) arrows vs)
+  round-limit change l arrows {vs} h =
+      round-keeps (changeOf change go) (Numbers n highest) arrows (λ a m. change-limit change l a) vs h

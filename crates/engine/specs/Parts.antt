@@ -1,12 +1,18 @@
 -- What the functions of the engine ask of a chart and of what is lent, and what they promise.
 use mathlib.Core.Path.{_≡_}
+use mathlib.Core.Bool.{Bool}
 use mathlib.Core.List.{List}
 use Prim.Native.Nat.{ℕ, _≤_, _<_}
-use lib.ListN.{length}
-use Rattle.model.specs.Engine.{num, Numbers}
+use lib.ListN.{length, set}
+use Rattle.tctl.specs.Chart.{Chart}
+use Rattle.model.specs.Engine.{num, Numbers, round}
+use Rattle.model.specs.Marks.{flag}
+use Rattle.chart.specs.Bytes.{arrowWords, arrowOf}
 use Rattle.chart.specs.declared.ArrowWords.{ArrowWords}
 use Rattle.chart.specs.Shape.{Small, Passed}
-use Rattle.engine.specs.Change.{highest}
+use Rattle.hints.specs.Circle.{Circled}
+use Rattle.engine.specs.declared.Change.{Change}
+use Rattle.engine.specs.Change.{highest, changeOf, left, listed}
 
 -- a chart that passes checks 1 to 9, a row of marks and numbers for its states
 pub record Lent (chart : List ℕ) (n m : ℕ) (go vs : List ℕ) : Type 0 where
@@ -22,8 +28,21 @@ pub record Placed (w : ArrowWords) (go vs : List ℕ) : Type 0 where
   pub row : length go ≡ length vs
   pub capped : (s : ℕ) → num vs s ≤ highest
 
--- the numbers became as expected by r changes, k at most; by none, they are the old ones
-pub record Changed (k r : ℕ) (old expected new : List ℕ) : Type 0 where
-  pub few : r ≤ k
+-- the numbers became as expected: r is 0 if that is as they were, else 1 more than the state whose number moved last
+pub record Changed (change : Change) (r : ℕ) (old expected new : List ℕ) : Type 0 where
   pub is : new ≡ expected
+  pub state : r ≤ length new
   pub still : r ≡ 0 → new ≡ old
+  pub nearer : ¬ (r ≡ 0) → left change new < left change old
+
+-- after a sweep: each arrow was tried, in one order or the other; if none moved a number, none would
+pub record Swept (change : Change) (back : Bool) (chart : List ℕ) (m : ℕ) (go : List ℕ) (r : ℕ) (old new : List ℕ) : Type 0 where
+  pub changed : Changed change r old (round (changeOf change (flag go)) (listed back m chart m) old) new
+  pub quiet :
+      r ≡ 0 → (i : ℕ) → i < m → changeOf change (flag go) (arrowOf (arrowWords chart i)) new ≡ new
+
+-- the numbers are as they were, or that of a state on a loop in which time passes is at the cap
+pub data Leapt (G : Chart) (go : ℕ → Bool) (n cap : ℕ) (old : List ℕ) : List ℕ → Type 0 where
+  stays : Leapt G go n cap old old
+  leaps :
+      (r : ℕ) → r < n → 1 ≤ num old r → num old r < cap → Circled G go r → Leapt G go n cap old (set old r cap)

@@ -1,13 +1,15 @@
-// The engine on lent numbers, one a state: rounds over a chart's arrows, each of which may change the number of its
-// start. A row of marks says through which states it goes.
+// The engine on lent numbers, one a state: sweeps over a chart's arrows, each of which may change the number of its start,
+// until none does. A row of marks says through which states it goes.
 ghost use mathlib.Core.Path.{_≡_};
-ghost use mathlib.Core.Bool.{cond};
-ghost use Prim.Native.Nat.{_≤_, _<_, min};
-ghost use Rattle.model.specs.Engine.{round, rounds, offer};
+ghost use mathlib.Core.Bool.{cond, _&&_};
+ghost use Prim.Native.Nat.{_+_, _≤_, _<_, min};
+ghost use lib.Dec.{eqb, ltb};
+ghost use Rattle.model.specs.Engine.{offer};
 ghost use Rattle.model.specs.Marks.{flag};
+ghost use Rattle.model.specs.Weighed.{weight, weighed};
 ghost use Rattle.chart.specs.Bytes.{arrowWords, mostOf, arrowOf, chartOf};
-ghost use Rattle.engine.specs.Change.{highest, weight, weighed, top, changeOf, lowered, raised};
-ghost use Rattle.engine.specs.Parts.{Lent, Placed, Changed};
+ghost use Rattle.engine.specs.Change.{highest, top, changeOf, turned, lowered, raised};
+ghost use Rattle.engine.specs.Parts.{Lent, Placed, Changed, Swept, Leapt};
 use chart::ArrowWords;
 
 // How a number is raised: by the most minutes or by a tick, to what that gives or to the cap at once.
@@ -69,51 +71,78 @@ fn reached(climb: Climb, v: u32) -> u32
     v
 }
 
-// The arrow a lowers the number of its start. Answers how many numbers it changed.
-fn lower(go: &[u8], a: ArrowWords, numbers: &mut [u32]) -> u32
+// What counts at a state with that mark for a number to be lowered: v, and past every number without the mark 1. An answer
+// instead of an early end, since whether a state is gone through is a test that no processor foretells.
+fn barred(mark: u8, v: u32) -> u32
+    ensures { λ r. ⌜ r ≡ cond (eqb mark 1) v 131072 ⌝ }
+{
+    if mark == 1 {
+        return v;
+    }
+    131072
+}
+
+// And for a number to be raised from one there: v, and 0 without the mark 1 or from the number 0.
+fn kept(mark: u8, there: u32, v: u32) -> u32
+    ensures { λ r. ⌜ r ≡ cond (eqb mark 1 && ltb 0 there) v 0 ⌝ }
+{
+    if mark != 1 {
+        return 0;
+    }
+    if there == 0 {
+        return 0;
+    }
+    v
+}
+
+// The arrow a lowers the number of its start. Answers 0 if it does not, else 1 more than that state.
+fn lower(go: &[u8], a: ArrowWords, numbers: &mut [u32]) -> usize
     requires { ⌜ Placed a (now go) (now numbers) ⌝ }
-    ensures { λ r. ⌜ Changed 1 r (now (numbers .entry))
+    ensures { λ r. ⌜ Changed Change.Lower r (now (numbers .entry))
         (changeOf Change.Lower (flag (now (go .entry))) (arrowOf a) (now (numbers .entry)))
         (now (numbers .exit)) ⌝ }
 {
     let s = a.start;
     let e = a.end;
-    if go[s] != 1 {
-        return 0;
-    }
-    let v = a.fewest + numbers[e];
+    let v = barred(go[s], a.fewest + numbers[e]);
     if numbers[s] <= v {
         return 0;
     }
     numbers[s] = v;
-    1
+    s + 1
 }
 
 // The arrow a raises the number of its start. From an end with the number 0 there is no offer.
-fn raise(climb: Climb, go: &[u8], a: ArrowWords, numbers: &mut [u32]) -> u32
+fn raise(climb: Climb, go: &[u8], a: ArrowWords, numbers: &mut [u32]) -> usize
     requires { ⌜ Placed a (now go) (now numbers) ⌝ }
-    ensures { λ r. ⌜ Changed 1 r (now (numbers .entry))
+    ensures { λ r. ⌜ Changed (Change.Raise climb) r (now (numbers .entry))
         (changeOf (Change.Raise climb) (flag (now (go .entry))) (arrowOf a) (now (numbers .entry)))
         (now (numbers .exit)) ⌝ }
 {
     let s = a.start;
     let e = a.end;
-    if go[s] != 1 {
-        return 0;
-    }
     let there = numbers[e];
-    if there == 0 {
-        return 0;
-    }
-    let v = offered(climb, a.most, there);
+    let v = kept(go[s], there, offered(climb, a.most, there));
     if v <= numbers[s] {
         return 0;
     }
     numbers[s] = reached(climb, v);
-    1
+    s + 1
 }
 
-// Arrow i changes the number of its start.
+// The arrow a changes the number of its start.
+fn alter(change: Change, go: &[u8], a: ArrowWords, numbers: &mut [u32]) -> usize
+    requires { ⌜ Placed a (now go) (now numbers) ⌝ }
+    ensures { λ r. ⌜ Changed change r (now (numbers .entry))
+        (changeOf change (flag (now (go .entry))) (arrowOf a) (now (numbers .entry))) (now (numbers .exit)) ⌝ }
+{
+    match change {
+        Change::Lower => lower(go, a, numbers),
+        Change::Raise(climb) => raise(climb, go, a, numbers),
+    }
+}
+
+// Arrow i changes the number of its start, and is then its hint.
 fn step(
     change: Change,
     chart: &[u8],
@@ -121,62 +150,171 @@ fn step(
     m: usize,
     i: usize,
     go: &[u8],
+    hints: &mut [usize; 256],
     numbers: &mut [u32],
-) -> u32
+) -> usize
     requires { ⌜ Lent (now chart) n m (now go) (now numbers) × (i < m) ⌝ }
-    ensures { λ r. ⌜ Changed 1 r (now (numbers .entry))
+    ensures { λ r. ⌜ Changed change r (now (numbers .entry))
         (changeOf change (flag (now (go .entry))) (arrowOf (arrowWords (now (chart .entry)) i)) (now (numbers .entry)))
         (now (numbers .exit)) ⌝ }
 {
     let a = chart::arrow_at(chart, n, i);
-    match change {
-        Change::Lower => lower(go, a, numbers),
-        Change::Raise(climb) => raise(climb, go, a, numbers),
+    let moved = alter(change, go, a, numbers);
+    if moved == 0 {
+        return moved;
     }
+    let s = moved - 1;
+    hints[s] = i;
+    moved
 }
 
-// One round over the arrows. Answers how many changes it made.
-fn round(change: Change, chart: &[u8], n: usize, m: usize, go: &[u8], numbers: &mut [u32]) -> u32
-    requires { ⌜ Lent (now chart) n m (now go) (now numbers) × (top change ≤ highest) ⌝ }
-    ensures { λ r. ⌜ Changed m r (now (numbers .entry))
-        (round (changeOf change (flag (now (go .entry)))) (chartOf (now (chart .entry)) .arrows) (now (numbers .entry)))
-        (now (numbers .exit)) ⌝ }
+// The arrow that is tried after i others, of m.
+fn turn(back: bool, m: usize, i: usize) -> usize
+    requires { ⌜ i < m ⌝ }
+    ensures { λ r. ⌜ r ≡ turned back m i ⌝ }
 {
-    let mut changed = 0;
+    if back {
+        return m - 1 - i;
+    }
+    i
+}
+
+// The later of two answers, the first unless there was a second.
+fn later(first: usize, second: usize) -> usize
+    ensures { λ r. ⌜ r ≡ cond (eqb second 0) first second ⌝ }
+{
+    if second == 0 {
+        return first;
+    }
+    second
+}
+
+// One sweep over the arrows, on or back. Answers 0 if it changed nothing, else 1 more than the state it changed last.
+fn sweep(
+    change: Change,
+    back: bool,
+    chart: &[u8],
+    n: usize,
+    m: usize,
+    go: &[u8],
+    hints: &mut [usize; 256],
+    numbers: &mut [u32],
+) -> usize
+    requires { ⌜ Lent (now chart) n m (now go) (now numbers) × (top change ≤ highest) ⌝ }
+    ensures { λ r. ⌜ Swept change back (now (chart .entry)) m (now (go .entry)) r
+        (now (numbers .entry)) (now (numbers .exit)) ⌝ }
+{
+    let mut last = 0;
     let mut i = 0;
     while i < m {
-        changed += step(change, chart, n, m, i, go, numbers);
+        let j = turn(back, m, i);
+        last = later(last, step(change, chart, n, m, j, go, hints, numbers));
         i += 1;
     }
-    changed
+    last
 }
 
-// n rounds, or fewer where one changes nothing: no later round would.
-fn rounds(change: Change, chart: &[u8], n: usize, m: usize, go: &[u8], numbers: &mut [u32])
-    requires { ⌜ Lent (now chart) n m (now go) (now numbers) × (top change ≤ highest) ⌝ }
+// Numbers are lowered, on and back, until no arrow lowers one.
+fn fall(chart: &[u8], n: usize, m: usize, go: &[u8], hints: &mut [usize; 256], numbers: &mut [u32])
+    requires { ⌜ Lent (now chart) n m (now go) (now numbers) ⌝ }
     ensures { λ _. ⌜ now (numbers .exit) ≡
-        rounds (changeOf change (flag (now (go .entry)))) n (chartOf (now (chart .entry)) .arrows)
-        (now (numbers .entry)) ⌝ }
+        lowered (chartOf (now (chart .entry)) .arrows) n (flag (now (go .entry))) (now (numbers .entry)) ⌝ }
 {
-    let mut done = 0;
-    while done < n {
-        if round(change, chart, n, m, go, numbers) == 0 {
+    let mut back = false;
+    loop {
+        if sweep(Change::Lower, back, chart, n, m, go, hints, numbers) == 0 {
             return;
         }
-        done += 1;
+        back = !back;
     }
 }
 
-// The least fixpoint's rounds.
+// The least fixpoint.
 pub fn least(chart: &[u8], n: usize, m: usize, go: &[u8], numbers: &mut [u32])
     requires { ⌜ Lent (now chart) n m (now go) (now numbers) ⌝ }
     ensures { λ _. ⌜ now (numbers .exit) ≡
         lowered (chartOf (now (chart .entry)) .arrows) n (flag (now (go .entry))) (now (numbers .entry)) ⌝ }
 {
-    rounds(Change::Lower, chart, n, m, go, numbers);
+    let mut hints = [2048; 256];
+    fall(chart, n, m, go, &mut hints, numbers);
 }
 
-// The greatest fixpoint's rounds: what rises after n rounds rises without end.
+// The number of the state that the hints lead to goes to the cap, if they lead round from there and time passes.
+fn leap(
+    chart: &[u8],
+    n: usize,
+    m: usize,
+    cap: u32,
+    hints: &[usize; 256],
+    go: &[u8],
+    from: usize,
+    numbers: &mut [u32],
+)
+    requires { ⌜ Lent (now chart) n m (now go) (now numbers) × (from < n) ⌝ }
+    ensures { λ _. ⌜ Leapt (chartOf (now (chart .entry))) (flag (now (go .entry))) n cap
+        (now (numbers .entry)) (now (numbers .exit)) ⌝ }
+{
+    let r = hints::follow(chart, n, m, hints, from);
+    let v = numbers[r];
+    if v == 0 {
+        return;
+    }
+    if cap <= v {
+        return;
+    }
+    if !hints::circles(chart, n, m, hints, go, r) {
+        return;
+    }
+    numbers[r] = cap;
+}
+
+// One more than the sweeps done, up to n.
+fn counted(done: usize, n: usize) -> usize
+    requires { ⌜ done ≤ n ⌝ }
+    ensures { λ r. ⌜ r ≡ min (done + 1) n ⌝ }
+{
+    if done < n {
+        return done + 1;
+    }
+    n
+}
+
+// Numbers are raised, on and back, until no arrow raises one. What goes round a loop in which time passes rises without end,
+// and so does what rises after n sweeps.
+fn rise(
+    chart: &[u8],
+    n: usize,
+    m: usize,
+    ticks: bool,
+    cap: u32,
+    go: &[u8],
+    hints: &mut [usize; 256],
+    numbers: &mut [u32],
+)
+    requires { ⌜ Lent (now chart) n m (now go) (now numbers) × (cap ≤ highest) ⌝ }
+    ensures { λ _. ⌜ now (numbers .exit) ≡
+        raised (weighed ticks (chartOf (now (chart .entry)) .arrows)) n cap (flag (now (go .entry)))
+        (now (numbers .entry)) ⌝ }
+{
+    let mut back = false;
+    let mut done = 0;
+    loop {
+        let climb = Climb {
+            ticks,
+            leap: n <= done,
+            cap,
+        };
+        let last = sweep(Change::Raise(climb), back, chart, n, m, go, hints, numbers);
+        if last == 0 {
+            return;
+        }
+        leap(chart, n, m, cap, hints, go, last - 1, numbers);
+        back = !back;
+        done = counted(done, n);
+    }
+}
+
+// The greatest fixpoint.
 pub fn greatest(
     chart: &[u8],
     n: usize,
@@ -191,28 +329,6 @@ pub fn greatest(
         raised (weighed ticks (chartOf (now (chart .entry)) .arrows)) n cap (flag (now (go .entry)))
         (now (numbers .entry)) ⌝ }
 {
-    rounds(
-        Change::Raise(Climb {
-            ticks,
-            leap: false,
-            cap,
-        }),
-        chart,
-        n,
-        m,
-        go,
-        numbers,
-    );
-    rounds(
-        Change::Raise(Climb {
-            ticks,
-            leap: true,
-            cap,
-        }),
-        chart,
-        n,
-        m,
-        go,
-        numbers,
-    );
+    let mut hints = [2048; 256];
+    rise(chart, n, m, ticks, cap, go, &mut hints, numbers);
 }

@@ -4,9 +4,11 @@ pub mod Marks
 pub mod Rounds
 pub mod RoundLaws
 pub mod Lower
+pub mod Falling
 pub mod Least
 pub mod Full
 pub mod Raise
+pub mod Rising
 pub mod Greatest
 pub mod Row
 pub mod Same

@@ -18,7 +18,7 @@ module _ (change : Arrow → List ℕ → List ℕ) where
   round-last (suc i) g vs = round-last i (λ j. g (suc j)) (change (g 0) vs)
 
   module _ (f : Arrow → Arrow) where
-    round-map :
+    pub round-map :
         (arrows : List Arrow) (vs : List ℕ) →
         round change (map f arrows) vs ≡ round (λ a. change (f a)) arrows vs
     unfolding round

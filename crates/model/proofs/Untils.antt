@@ -20,7 +20,8 @@ use Rattle.tctl.proofs.SomeUntil.{some-iff-path}
 use Rattle.model.specs.Engine.{num, least, greatest}
 use Rattle.model.specs.Decide.{ask, someRow, allRow}
 use Rattle.model.proofs.Least.{least-iff}
-use Rattle.model.proofs.Greatest.{Gain, greatest-iff}
+use Rattle.model.proofs.Rising.{Gain}
+use Rattle.model.proofs.Greatest.{greatest-iff}
 use Rattle.model.proofs.Row.{row-iff}
 use Rattle.model.proofs.Settles.{settles-iff}
 use Rattle.model.proofs.AtMostRow.{at-most-settles}

@@ -17,7 +17,8 @@ use Rattle.chart.specs.Bytes.{chartOf}
 use Rattle.chart.specs.Shape.{Passed}
 use Rattle.chart.proofs.Reading.{drawn, has-states}
 use Rattle.rule.specs.declared.NodeWords.{NodeWords}
-use Rattle.engine.specs.Change.{highest, weighed}
+use Rattle.model.specs.Weighed.{weighed}
+use Rattle.engine.specs.Change.{highest}
 use Rattle.nodes.specs.Parts.{Lower}
 use Rattle.nodes.specs.Untils.{sureStart}
 

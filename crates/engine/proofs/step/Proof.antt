@@ -1,8 +1,9 @@
--- The two changes.
-use borrow.Author.Needs.{needs}
+-- The change, and the hint, which no promise speaks of.
 use Rattle.chart.proofs.Arrow.{arrow-inside}
 use Rattle.chart.proofs.Reading.{shaped}
 use Rattle.engine.proofs.Arrows.{placed}
+use native.Mathlib.Omega.{arith}
+use borrow.Author.Needs.{needs}
 use Rattle.engine.proofs.step.Statement.{statement}
 use Rattle.engine.proofs.step.Tie as tie
 
@@ -11,21 +12,9 @@ arrow-at-requires c κs =
     let p = c .before .before .before .pre in
     arrow-inside (shaped (p .0 .passed)) (p .1)
 
-enum-told : tie.Need-enum-told
-enum-told c = search needs
-
-lower-requires : tie.Need-lower-requires
-lower-requires c κs =
-    let read = c .before .before .before in
-    let p = read .before .before .before .before .pre in
-    placed (p .0) (p .1) (read .arrow-at .ensures)
-
-enum-known-change : tie.Need-enum-known-change
-enum-known-change c = search needs
-
-raise-requires : tie.Need-raise-requires
-raise-requires c κs =
-    let read = c .before .before .before .before in
+alter-requires : tie.Need-alter-requires
+alter-requires c κs =
+    let read = c .before in
     let p = read .before .before .before .before .pre in
     placed (p .0) (p .1) (read .arrow-at .ensures)
 
@@ -34,29 +23,40 @@ same-length c = search needs
 
 returns : tie.Need-returns
 returns c =
-    let lowered = c .before .before in
-    let told = lowered .before .before in
-    rw (told .enum-told .given .1, ← told .before .before .arrow-at .ensures .0) (lowered .lower .ensures)
+    let altered = c .before .before .before in
+    rw (← altered .before .before .arrow-at .ensures .0) (altered .alter .ensures)
+
+sub-s : tie.Need-sub-s
+sub-s c = search needs
+
+mul-hints : tie.Need-mul-hints
+mul-hints c = search needs
+
+element-write-hints : tie.Need-element-write-hints
+element-write-hints c =
+    let altered = c .before .before .before in
+    let p = altered .before .before .before .before .before .before .pre .0 in
+    let size = altered .alter .kept .1 .1 .1 .0 in
+    omega (arith, altered .alter .ensures .state, size, p .numbers .size, shaped (p .passed) .few-states, c .if1 .left)
 
 same-length-2 : tie.Need-same-length-2
 same-length-2 c = search needs
 
 returns-2 : tie.Need-returns-2
 returns-2 c =
-    let raised = c .before .before in
-    let known = raised .before .before .before in
-    rw (known .change .given .1, ← known .before .before .arrow-at .ensures .0) (raised .raise .ensures)
+    let altered = c .before .before .before in
+    rw (← altered .before .before .arrow-at .ensures .0) (altered .alter .ensures)
 
 pub step-spec : {M : Type 1} → statement M
 step-spec =
     tie.close
     (tie.spec
     arrow-at-requires
-    enum-told
-    lower-requires
-    enum-known-change
-    raise-requires
+    alter-requires
     same-length
     returns
+    sub-s
+    mul-hints
+    element-write-hints
     same-length-2
     returns-2)

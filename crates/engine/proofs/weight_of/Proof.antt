@@ -1,6 +1,6 @@
 -- The cases of the weight.
 use native.Mathlib.Omega.{arith}
-use Rattle.engine.proofs.Weights.{tick-one}
+use Rattle.hints.proofs.Led.{tick-one}
 use Rattle.engine.proofs.weight_of.Statement.{statement}
 use Rattle.engine.proofs.weight_of.Tie as tie
 

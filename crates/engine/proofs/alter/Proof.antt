@@ -1,0 +1,45 @@
+-- The two changes.
+use borrow.Author.Needs.{needs}
+use Rattle.engine.proofs.alter.Statement.{statement}
+use Rattle.engine.proofs.alter.Tie as tie
+
+enum-told : tie.Need-enum-told
+enum-told c = search needs
+
+lower-requires : tie.Need-lower-requires
+lower-requires c κs = search needs
+
+enum-known-change : tie.Need-enum-known-change
+enum-known-change c = search needs
+
+raise-requires : tie.Need-raise-requires
+raise-requires c κs = search needs
+
+same-length : tie.Need-same-length
+same-length c = search needs
+
+returns : tie.Need-returns
+returns c =
+    let lowered = c .before .before in
+    rw (lowered .before .before .enum-told .given .1) (lowered .lower .ensures)
+
+same-length-2 : tie.Need-same-length-2
+same-length-2 c = search needs
+
+returns-2 : tie.Need-returns-2
+returns-2 c =
+    let raised = c .before .before in
+    rw (raised .before .before .before .change .given .1) (raised .raise .ensures)
+
+pub alter-spec : {M : Type 1} → statement M
+alter-spec =
+    tie.close
+    (tie.spec
+    enum-told
+    lower-requires
+    enum-known-change
+    raise-requires
+    same-length
+    returns
+    same-length-2
+    returns-2)
