@@ -1,0 +1,8 @@
+//! The peer that the library is timed against, and the inputs of the benchmark.
+
+pub mod bytes;
+pub mod families;
+pub mod maps;
+pub mod peer;
+pub mod random;
+pub mod rules;

@@ -1,0 +1,55 @@
+//! A plain peer of the library's check, by the published method: shortest times by Dijkstra's search backwards from the
+//! goals, longest times over strongly connected components. It parses, refuses and marks as the library does.
+
+mod arrows;
+mod chart;
+mod components;
+mod longest;
+mod rule;
+mod settle;
+mod shortest;
+
+use chart::Chart;
+use rule::Rule;
+use settle::Settler;
+
+/// Number and place of a refusal; both 0 on success.
+#[derive(Clone, Copy, Debug, PartialEq, Eq)]
+pub struct Outcome {
+    pub number: u32,
+    pub place: u32,
+}
+
+fn refusal(number: u32, place: usize) -> Outcome {
+    Outcome { number, place: place as u32 }
+}
+
+fn word(bytes: &[u8], at: usize) -> u16 {
+    u16::from_be_bytes([bytes[at], bytes[at + 1]])
+}
+
+/// The length that bytes 1 to 4 state.
+fn stated_length(bytes: &[u8]) -> usize {
+    u32::from_be_bytes([bytes[1], bytes[2], bytes[3], bytes[4]]) as usize
+}
+
+/// Marks every node of the rule at every state of the chart.
+pub fn check(chart: &[u8], rule: &[u8], marks: &mut [u8], scratch: &mut [u32]) -> Outcome {
+    match accept(chart, rule, marks, scratch) {
+        Ok(()) => refusal(0, 0),
+        Err(refused) => refused,
+    }
+}
+
+fn accept(chart: &[u8], rule: &[u8], marks: &mut [u8], scratch: &mut [u32]) -> Result<(), Outcome> {
+    let chart = Chart::read(chart)?;
+    let rule = Rule::read(rule)?;
+    let n = chart.labels.len();
+    let marks = marks.get_mut(..rule.nodes.len() * n).ok_or(refusal(17, 0))?;
+    let scratch = scratch.get_mut(..4 * n).ok_or(refusal(18, 0))?;
+    // The numbers per state live in vectors here; the lent ones are only left as the document says.
+    scratch.fill(0);
+    chart.refuse_instant_loop()?;
+    Settler::new(&chart).settle(&rule, marks);
+    Ok(())
+}

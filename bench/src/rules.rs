@@ -1,0 +1,85 @@
+//! Rules of 64 nodes with 31 untils, which is as many as 64 nodes can hold: 31 untils have 32 leaves, and one not is
+//! left.
+
+use crate::bytes::{self, Node};
+
+pub const NAMES: [&str; 6] = ["mixed", "e-most", "e-least", "a-most", "a-least", "far"];
+
+const E: u8 = 5;
+const A: u8 = 6;
+const AT_MOST: u8 = 1;
+const AT_LEAST: u8 = 2;
+
+/// Small, middle and greatest, as many as don't divide the four untils, so that each until meets each bound.
+const BOUNDS: [u16; 7] = [3, 65_535, 60, 0, 500, 12, 2_500];
+
+/// The rule of that name; no such rule gives none.
+pub fn rule(name: &str) -> Option<Vec<u8>> {
+    let untils: &[(u8, u8)] = match name {
+        "mixed" => &[(E, AT_MOST), (A, AT_LEAST), (E, AT_LEAST), (A, AT_MOST)],
+        "e-most" => &[(E, AT_MOST)],
+        "e-least" => &[(E, AT_LEAST)],
+        "a-most" => &[(A, AT_MOST)],
+        "a-least" => &[(A, AT_LEAST)],
+        "far" => return Some(bytes::rule(&far())),
+        _ => return None,
+    };
+    let mut tree = Tree { nodes: Vec::new(), untils, count: 0 };
+    tree.grow(5);
+    Some(bytes::rule(&tree.nodes))
+}
+
+/// A balanced tree of untils; the lowest ones stand over labels.
+struct Tree<'a> {
+    nodes: Vec<Node>,
+    untils: &'a [(u8, u8)],
+    count: usize,
+}
+
+impl Tree<'_> {
+    /// Adds a tree of that depth and answers its root.
+    fn grow(&mut self, depth: usize) -> u16 {
+        let (a, b) = if depth == 1 { self.leaves() } else { (self.grow(depth - 1), self.grow(depth - 1)) };
+        let (operation, kind) = self.untils[self.count % self.untils.len()];
+        let c = BOUNDS[self.count % BOUNDS.len()];
+        self.count += 1;
+        self.push(Node { operation, kind, a, b, c })
+    }
+
+    fn leaves(&mut self) -> (u16, u16) {
+        let i = self.count as u16;
+        let p = self.push(label(i * 2 % 16));
+        let q = self.push(label((i * 6 + 1) % 16));
+        // The one not of the rule.
+        if self.count == 0 {
+            return (p, self.push(Node { operation: 2, kind: 0, a: q, b: 0, c: 0 }));
+        }
+        (p, q)
+    }
+
+    fn push(&mut self, node: Node) -> u16 {
+        self.nodes.push(node);
+        self.nodes.len() as u16 - 1
+    }
+}
+
+fn label(a: u16) -> Node {
+    Node { operation: 1, kind: 0, a, b: 0, c: 0 }
+}
+
+/// Each until stands in the one after it as the first operand, and every bound is the greatest: on a chain with a loop
+/// every until is marked everywhere, so each has the whole chain to run.
+fn far() -> Vec<Node> {
+    let untils = [(E, AT_MOST), (E, AT_LEAST), (A, AT_MOST)];
+    let mut nodes = vec![label(1), Node { operation: 2, kind: 0, a: 0, b: 0, c: 0 }];
+    nodes.push(label(1));
+    for i in 0..31 {
+        let before = nodes.len() as u16 - 2;
+        let (operation, kind) = untils[i % untils.len()];
+        nodes.push(Node { operation, kind, a: before, b: before + 1, c: u16::MAX });
+        if i < 30 {
+            nodes.push(label(1));
+        }
+    }
+    nodes
+}

@@ -1,0 +1,53 @@
+//! Times per call over several batches.
+
+use std::time::{Duration, Instant};
+
+/// How many batches are taken and how long one lasts at least.
+pub struct Plan {
+    pub batches: usize,
+    pub batch: Duration,
+}
+
+/// Microseconds per call.
+pub struct Times {
+    pub median: f64,
+    pub best: f64,
+}
+
+/// Batches of two calls taken in turn, so that a slower spell of the machine meets both.
+pub fn in_turn(plan: &Plan, mut first: impl FnMut(), mut second: impl FnMut()) -> (Times, Times) {
+    let counts = (warm_up(plan, &mut first), warm_up(plan, &mut second));
+    let mut times = (Vec::new(), Vec::new());
+    for _ in 0..plan.batches {
+        times.0.push(per_call(counts.0, &mut first));
+        times.1.push(per_call(counts.1, &mut second));
+    }
+    (summary(times.0), summary(times.1))
+}
+
+pub fn alone(plan: &Plan, mut call: impl FnMut()) -> Times {
+    let count = warm_up(plan, &mut call);
+    summary((0..plan.batches).map(|_| per_call(count, &mut call)).collect())
+}
+
+/// Calls until a batch lasts long enough and answers the calls that took.
+fn warm_up(plan: &Plan, call: &mut impl FnMut()) -> u32 {
+    let mut count = 1;
+    while per_call(count, call) * f64::from(count) < plan.batch.as_secs_f64() * 1e6 {
+        count *= 2;
+    }
+    count
+}
+
+fn per_call(count: u32, call: &mut impl FnMut()) -> f64 {
+    let start = Instant::now();
+    for _ in 0..count {
+        call();
+    }
+    start.elapsed().as_secs_f64() * 1e6 / f64::from(count)
+}
+
+fn summary(mut times: Vec<f64>) -> Times {
+    times.sort_by(f64::total_cmp);
+    Times { median: times[times.len() / 2], best: times[0] }
+}

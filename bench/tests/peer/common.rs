@@ -1,0 +1,39 @@
+//! What the tests share.
+
+use bench::bytes::{self, Arrow, Node};
+use bench::peer::{self, Outcome};
+
+pub fn arrow(start: u16, end: u16, fewest: u16, most: u16) -> Arrow {
+    Arrow { start, end, fewest, most }
+}
+
+pub fn node(operation: u8, kind: u8, a: u16, b: u16, c: u16) -> Node {
+    Node { operation, kind, a, b, c }
+}
+
+/// What the lent tables hold before a call.
+pub const LENT_MARK: u8 = 0xAA;
+pub const LENT_NUMBER: u32 = 0xAAAA_AAAA;
+
+pub struct Answer {
+    pub outcome: Outcome,
+    pub marks: Vec<u8>,
+    pub scratch: Vec<u32>,
+}
+
+pub fn call(chart: &[u8], rule: &[u8], marks: usize, scratch: usize) -> Answer {
+    let (mut marks, mut scratch) = (vec![LENT_MARK; marks], vec![LENT_NUMBER; scratch]);
+    let outcome = peer::check(chart, rule, &mut marks, &mut scratch);
+    Answer { outcome, marks, scratch }
+}
+
+/// The marks of an accepted call, after tables a little longer than asked for are found kept at their ends.
+pub fn marks(labels: &[u16], arrows: &[Arrow], nodes: &[Node]) -> Vec<u8> {
+    let (n, k) = (labels.len(), nodes.len());
+    let answer = call(&bytes::chart(labels, arrows), &bytes::rule(nodes), k * n + 3, 4 * n + 3);
+    assert_eq!(answer.outcome, Outcome { number: 0, place: 0 });
+    assert_eq!(answer.marks[k * n..], [LENT_MARK; 3]);
+    assert!(answer.scratch[..4 * n].iter().all(|&number| number == 0));
+    assert_eq!(answer.scratch[4 * n..], [LENT_NUMBER; 3]);
+    answer.marks[..k * n].to_vec()
+}

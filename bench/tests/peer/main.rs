@@ -1,0 +1,7 @@
+//! Tests of the peer and of the benchmark's inputs.
+
+mod common;
+mod inputs;
+mod items;
+mod refusals;
+mod runs;

@@ -1,0 +1,154 @@
+//! The peer against the meaning itself on small random charts: untils are decided over pairs of a state and the minutes
+//! passed, where the minutes stop counting once they are past the bound.
+
+use crate::common::{marks, node};
+use bench::bytes::{self, Arrow, Node, NO_END};
+use bench::peer;
+use bench::random::Random;
+
+/// A pair that can't be told apart by the bound.
+struct Pairs<'a> {
+    arrows: &'a [Arrow],
+    n: usize,
+    /// One more than the bound: the minutes at which counting stops.
+    top: usize,
+}
+
+impl Pairs<'_> {
+    /// Every pair that one step may lead to.
+    fn steps(&self, state: usize, minutes: usize) -> Vec<(usize, usize)> {
+        let mut after = Vec::new();
+        for arrow in self.arrows.iter().filter(|arrow| usize::from(arrow.start) == state) {
+            let last = if arrow.most == NO_END { arrow.fewest + self.top as u16 } else { arrow.most };
+            for duration in arrow.fewest..=last {
+                after.push((usize::from(arrow.end), (minutes + usize::from(duration)).min(self.top)));
+            }
+        }
+        after
+    }
+
+    /// The until at each state at minute 0, as the least set of pairs closed under its step.
+    fn until(&self, all_runs: bool, p: &[bool], q: &dyn Fn(usize, usize) -> bool) -> Vec<bool> {
+        let mut met = vec![vec![false; self.top + 1]; self.n];
+        let mut changed = true;
+        while changed {
+            changed = false;
+            for s in 0..self.n {
+                for t in 0..=self.top {
+                    let holds = |&(s, t): &(usize, usize)| met[s][t];
+                    let steps = self.steps(s, t);
+                    let onward = if all_runs { steps.iter().all(holds) } else { steps.iter().any(holds) };
+                    if !met[s][t] && (q(s, t) || p[s] && onward) {
+                        met[s][t] = true;
+                        changed = true;
+                    }
+                }
+            }
+        }
+        met.iter().map(|row| row[0]).collect()
+    }
+}
+
+fn rows(labels: &[u16], arrows: &[Arrow], nodes: &[Node]) -> Vec<Vec<bool>> {
+    let n = labels.len();
+    let mut rows: Vec<Vec<bool>> = Vec::new();
+    for node in nodes {
+        let left = rows.get(usize::from(node.a)).cloned().unwrap_or_default();
+        let right = rows.get(usize::from(node.b)).cloned().unwrap_or_default();
+        let c = usize::from(node.c);
+        let meets = |t: usize| if node.kind == 1 { t <= c } else { t >= c };
+        let row = match node.operation {
+            0 => vec![true; n],
+            1 => labels.iter().map(|label| label >> node.a & 1 == 1).collect(),
+            2 => left.iter().map(|&a| !a).collect(),
+            3 => (0..n).map(|s| left[s] && right[s]).collect(),
+            4 => (0..n).map(|s| left[s] || right[s]).collect(),
+            _ => {
+                let pairs = Pairs { arrows, n, top: c + 1 };
+                pairs.until(node.operation == 6, &left, &|s, t| right[s] && meets(t))
+            }
+        };
+        rows.push(row);
+    }
+    rows
+}
+
+fn random_chart(random: &mut Random) -> (Vec<u16>, Vec<Arrow>) {
+    let n = 1 + random.below(6);
+    let m = n + random.below(n + 2);
+    let labels = (0..n).map(|_| random.below(8) as u16).collect();
+    let mut arrows = Vec::new();
+    for i in 0..m {
+        let start = if i < n { i } else { random.below(n) };
+        let fewest = random.below(4) as u16;
+        let most = if random.chance(1, 8) { NO_END } else { fewest + random.below(3) as u16 };
+        arrows.push(Arrow { start: start as u16, end: random.below(n) as u16, fewest, most });
+    }
+    (labels, arrows)
+}
+
+/// A tree in which each node but the last is used once: operands are taken from the roots still free.
+fn random_rule(random: &mut Random) -> Vec<Node> {
+    let mut nodes = Vec::new();
+    let mut free = Vec::new();
+    for _ in 0..2 + random.below(3) {
+        let label = random.below(4) as u16;
+        nodes.push(if label == 3 { node(0, 0, 0, 0, 0) } else { node(1, 0, label, 0, 0) });
+        free.push(nodes.len() as u16 - 1);
+    }
+    while free.len() > 1 {
+        let a = free.swap_remove(random.below(free.len()));
+        if random.chance(1, 4) {
+            nodes.push(node(2, 0, a, 0, 0));
+        } else {
+            let b = free.swap_remove(random.below(free.len()));
+            nodes.push(two_operands(a, b, random));
+        }
+        free.push(nodes.len() as u16 - 1);
+    }
+    nodes
+}
+
+fn two_operands(a: u16, b: u16, random: &mut Random) -> Node {
+    if random.chance(1, 6) {
+        return node(3 + random.below(2) as u8, 0, a, b, 0);
+    }
+    let (operation, kind) = (5 + random.below(2) as u8, 1 + random.below(2) as u8);
+    node(operation, kind, a, b, random.below(12) as u16)
+}
+
+/// The lowest state on a loop of arrows whose fewest are 0, by following them n times from each state.
+fn instant_loop(n: usize, arrows: &[Arrow]) -> Option<usize> {
+    (0..n).find(|&first| {
+        let mut reached = vec![false; n];
+        for _ in 0..n {
+            for arrow in arrows.iter().filter(|arrow| arrow.fewest == 0) {
+                let start = usize::from(arrow.start);
+                reached[usize::from(arrow.end)] |= start == first || reached[start];
+            }
+        }
+        reached[first]
+    })
+}
+
+#[test]
+fn random_charts() {
+    let mut random = Random::new(7);
+    let (mut accepted, mut refused) = (0, 0);
+    for _ in 0..30_000 {
+        let (labels, arrows) = random_chart(&mut random);
+        let nodes = random_rule(&mut random);
+        let (n, k) = (labels.len(), nodes.len());
+        if let Some(place) = instant_loop(n, &arrows) {
+            let (mut table, mut scratch) = (vec![9; k * n], vec![9; 4 * n]);
+            let outcome = peer::check(&bytes::chart(&labels, &arrows), &bytes::rule(&nodes), &mut table, &mut scratch);
+            assert_eq!((outcome.number, outcome.place as usize), (19, place));
+            refused += 1;
+            continue;
+        }
+        let expected: Vec<u8> = rows(&labels, &arrows, &nodes).concat().into_iter().map(u8::from).collect();
+        assert_eq!(marks(&labels, &arrows, &nodes), expected, "{labels:?} {arrows:?} {nodes:?}");
+        accepted += 1;
+    }
+    assert!(accepted > 10_000 && refused > 1_000, "{accepted} accepted, {refused} refused");
+}

@@ -1,0 +1,37 @@
+//! What the calls answer.
+
+/// Number and place of a refusal; both 0 on success.
+#[derive(Clone, Copy, Debug, PartialEq, Eq)]
+pub struct Outcome {
+    pub number: u32,
+    pub place: u32,
+}
+
+impl Outcome {
+    pub(crate) const SUCCESS: Outcome = Outcome { number: 0, place: 0 };
+
+    pub(crate) fn refused(self) -> bool {
+        self.number != 0
+    }
+}
+
+#[derive(Clone, Copy, Debug, PartialEq, Eq)]
+pub enum Kind {
+    AllRuns,
+    SomeRun,
+    Both,
+    Neither,
+}
+
+/// The kind is `Neither` on a refusal.
+#[derive(Clone, Copy, Debug, PartialEq, Eq)]
+pub struct KindAnswer {
+    pub outcome: Outcome,
+    pub kind: Kind,
+}
+
+#[derive(Clone, Copy, Debug, PartialEq, Eq)]
+pub enum Choice {
+    Overview,
+    Detail,
+}

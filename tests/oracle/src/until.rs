@@ -1,0 +1,82 @@
+//! Both untils as least fixpoints over pairs of a state and a minute, the minute capped at c + 1.
+//!
+//! E: Q and bound met, or P and some next. A: Q and bound met, or P and every next.
+//! A step never lowers the minute, so the minutes are finished one by one from c + 1 down.
+
+use crate::chart::{Arrow, NO_END};
+use crate::leaving::Leaving;
+use crate::members::Members;
+
+pub struct Until<'a> {
+    pub leaving: &'a Leaving,
+    pub every: bool,
+    pub at_most: bool,
+    pub c: usize,
+    pub p: &'a [u8],
+    pub q: &'a [u8],
+}
+
+impl Until<'_> {
+    /// Marks the states whose pair with minute 0 is in the fixpoint.
+    pub fn settle(&self, row: &mut [u8]) {
+        let mut members = Members::none(row.len(), self.last());
+        for x in (0..=self.last()).rev() {
+            members.open(x);
+            self.begin(x, &mut members);
+            while self.grow(x, &mut members) {}
+        }
+        for (state, mark) in row.iter_mut().enumerate() {
+            *mark = u8::from(members.has(state, 0));
+        }
+    }
+
+    /// The minute that stands for c + 1 or more.
+    fn last(&self) -> usize {
+        self.c + 1
+    }
+
+    /// Q and bound met.
+    fn begin(&self, x: usize, members: &mut Members) {
+        let met = if self.at_most { x <= self.c } else { x >= self.c };
+        for state in (0..self.q.len()).filter(|&state| met && self.q[state] == 1) {
+            members.add(state, x);
+        }
+    }
+
+    /// P and some or every next; says whether a pair was added, for then others may follow within the minute.
+    fn grow(&self, x: usize, members: &mut Members) -> bool {
+        let mut grown = false;
+        for state in 0..self.p.len() {
+            if self.p[state] == 1 && !members.has(state, x) && self.next(state, x, members) {
+                members.add(state, x);
+                grown = true;
+            }
+        }
+        grown
+    }
+
+    fn next(&self, state: usize, x: usize, members: &Members) -> bool {
+        let arrows = self.leaving.state(state);
+        match self.every {
+            true => arrows.iter().all(|arrow| self.every_duration(arrow, x, members)),
+            false => arrows.iter().any(|arrow| self.some_duration(arrow, x, members)),
+        }
+    }
+
+    fn every_duration(&self, arrow: &Arrow, x: usize, members: &Members) -> bool {
+        let (lo, hi) = self.window(arrow, x);
+        members.within(usize::from(arrow.end), lo, hi) as usize == hi - lo + 1
+    }
+
+    fn some_duration(&self, arrow: &Arrow, x: usize, members: &Members) -> bool {
+        let (lo, hi) = self.window(arrow, x);
+        members.within(usize::from(arrow.end), lo, hi) > 0
+    }
+
+    /// The minutes at which the arrow can end when taken at minute x.
+    fn window(&self, arrow: &Arrow, x: usize) -> (usize, usize) {
+        let capped = |minutes: u16| self.last().min(x + usize::from(minutes));
+        let hi = if arrow.most == NO_END { self.last() } else { capped(arrow.most) };
+        (capped(arrow.fewest), hi)
+    }
+}

@@ -1,0 +1,41 @@
+//! Every call takes any input.
+
+use crate::make::{map, rule, short, undo, Numbers, TRUE};
+use oracle::{check, kind_of_rule, listing, map_check};
+
+/// Some bytes replaced, then cut or lengthened now and then.
+fn damaged(numbers: &mut Numbers, mut bytes: Vec<u8>) -> Vec<u8> {
+    for _ in 0..numbers.below(4) {
+        let at = numbers.below(bytes.len() as u64) as usize;
+        bytes[at] = [0, 1, 2, 255][numbers.below(4) as usize];
+    }
+    if numbers.below(4) == 0 {
+        bytes.resize(numbers.below(60) as usize, 1);
+    }
+    bytes
+}
+
+#[test]
+fn damaged_bytes() {
+    let mut numbers = Numbers(11);
+    let three = rule(&[TRUE, TRUE, (6, 1, 0, 1, 4)]);
+    for _ in 0..5000 {
+        let (chart, overview) = (damaged(&mut numbers, short()), damaged(&mut numbers, undo()));
+        let (rule, map) = (damaged(&mut numbers, three.clone()), damaged(&mut numbers, map(&[0, 1, 2])));
+        let (marks, scratch) = (numbers.below(20) as usize, numbers.below(20) as usize);
+        check(&chart, &rule, &mut vec![7; marks], &mut vec![9; scratch]);
+        kind_of_rule(&rule);
+        map_check(&chart, &overview, &map);
+        listing(&chart, &rule);
+    }
+}
+
+#[test]
+fn all_ones_and_nothing() {
+    for length in 0..40 {
+        let bytes = vec![255; length];
+        assert_eq!(check(&bytes, &bytes, &mut [], &mut []).number, if length < 9 { 1 } else { 2 });
+        assert_eq!(kind_of_rule(&bytes).outcome.number, if length < 7 { 10 } else { 11 });
+        assert_eq!(map_check(&short(), &short(), &bytes).number, 20);
+    }
+}

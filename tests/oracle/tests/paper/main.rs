@@ -1,0 +1,11 @@
+//! The paper's own examples, and the rules it gives for every input.
+
+mod any_bytes;
+mod buffers;
+mod durations;
+mod items;
+mod kinds;
+mod make;
+mod map_refusals;
+mod refusals;
+mod rows;
