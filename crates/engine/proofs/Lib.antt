@@ -3,4 +3,5 @@ pub mod Weights
 pub mod Limits
 pub mod Arrows
 pub mod Tried
+pub mod Leapt
 pub mod Sweeps

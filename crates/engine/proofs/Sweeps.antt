@@ -3,10 +3,10 @@ use mathlib.Core.Path.{_≡_, refl, sym, ap, subst, subst₂, _∙_}
 use mathlib.Core.Logic.{_↔_}
 use mathlib.Core.Bool.{Bool, true, false}
 use mathlib.Core.List.{List, map, List·Memᴰ, Memᴰ·map, Memᴰ·of-map}
-use Prim.Native.Nat.{ℕ, suc, _-_, _≤_, _<_}
+use Prim.Native.Nat.{ℕ, suc, _≤_, _<_}
 use native.Mathlib.Omega.{arith}
 use lib.ListN.{length}
-use Rattle.tctl.specs.Chart.{Chart, Arrow, states}
+use Rattle.tctl.specs.Chart.{Arrow, states}
 use Rattle.tctl.specs.Tabulate.{tabulate}
 use Rattle.tctl.proofs.Tabulate.{mem-tabulate, tabulate-mem}
 use Rattle.tctl.proofs.Drawn.{Drawn}
@@ -14,7 +14,7 @@ use Rattle.model.specs.Engine.{num, rounds, raise, greatest}
 use Rattle.model.specs.Marks.{flag}
 use Rattle.model.specs.Weighed.{weight, weighing, weighed, weighedChart}
 use Rattle.model.proofs.RoundLaws.{round-map}
-use Rattle.model.proofs.Numbers.{numbers-set, tabulate-num}
+use Rattle.model.proofs.Numbers.{tabulate-num}
 use Rattle.model.proofs.Weigh.{Weighed, weighed-drawn}
 use Rattle.model.proofs.Lower.{unlowered}
 use Rattle.model.proofs.Raise.{Offered, unraised-offered}
@@ -28,9 +28,8 @@ use Rattle.chart.proofs.Chart.{arrow-mem, arrow-of}
 use Rattle.chart.proofs.Reading.{has-states, drawn}
 use Rattle.engine.specs.declared.Change.{Change}
 use Rattle.engine.specs.declared.Change.the-variants.{Lower, Raise}
-use Rattle.engine.specs.Change.{highest, top, changeOf, total, turned, listed, lowered, raised}
-use Rattle.engine.specs.Parts.{Lent, Swept, Leapt, stays, leaps}
-use Rattle.engine.proofs.Total.{total-set}
+use Rattle.engine.specs.Change.{highest, top, changeOf, turned, listed, lowered, raised}
+use Rattle.engine.specs.Parts.{Lent, Swept, Leapt, none, more}
 use Rattle.engine.proofs.Limits.{lent-as, round-limit}
 use Rattle.engine.proofs.Tried.{turned-below, turned-twice}
 use Rattle.engine.proofs.Weights.{weighed-rounds}
@@ -49,21 +48,6 @@ pub swept-lent :
     Lent chart n m go vs → Swept change back chart m go r vs new → Lent chart n m go new
 swept-lent {change} {back} {chart} {go} {m = m} l lent t =
     lent-as lent (round-limit (flag go) change l (listed back m chart m) (lent .numbers)) (t .changed .is)
-
--- and after a leap
-pub leapt-lent :
-    {G : Chart} {chart go vs new : List ℕ} {n m cap : ℕ} → cap ≤ highest → Lent chart n m go vs →
-    Leapt G (flag go) n cap vs new → Lent chart n m go new
-leapt-lent l lent stays = lent
-leapt-lent {cap = cap} l lent (leaps r h some less on) = lent-as lent (numbers-set (lent .numbers) r cap l) refl
-
--- with no further to go
-pub leapt-total :
-    {G : Chart} {go : ℕ → Bool} {vs new : List ℕ} {n cap : ℕ} → length vs ≡ n → Leapt G go n cap vs new →
-    total (λ v. cap - v) new ≤ total (λ v. cap - v) vs
-leapt-total size stays = omega arith
-leapt-total {vs = vs} {cap = cap} size (leaps r l some less on) =
-    omega (arith, total-set (λ v. cap - v) vs r cap (omega arith))
 
 module _ {chart : List ℕ} {n m : ℕ} (p : Passed chart n m) (go : List ℕ) where
   abbrev arrow : ℕ → Arrow
@@ -182,10 +166,10 @@ module _ {chart : List ℕ} {n m : ℕ} (p : Passed chart n m) (go : List ℕ) w
       pub rises-leap :
           {j k : ℕ} {vs new : List ℕ} → j ≤ k → Rises chart ticks cap go old k vs →
           Leapt (chartOf chart) (flag go) n cap vs new → Rises chart ticks cap go old j new
-      rises-leap h f stays = rising-less heavy (flag go) cap (num old) h f
-      rises-leap h f (leaps r l some less on) =
-          let g = rising-less heavy (flag go) cap (num old) h f in
-          rising-loop heavy (flag go) cap (num old) g r (omega (arith, has-states p)) some less (on ticks .0) (on ticks .1)
+      rises-leap h f none = rising-less heavy (flag go) cap (num old) h f
+      rises-leap h f (more t r l some less on) =
+          rising-loop heavy (flag go) cap (num old) (rises-leap h f t) r (omega (arith, has-states p)) some less
+          (on ticks .0) (on ticks .1)
 
       -- numbers that no arrow raises are what the rounds make
       pub rises-all :

@@ -41,8 +41,9 @@ pub record Swept (change : Change) (back : Bool) (chart : List ℕ) (m : ℕ) (g
   pub quiet :
       r ≡ 0 → (i : ℕ) → i < m → changeOf change (flag go) (arrowOf (arrowWords chart i)) new ≡ new
 
--- the numbers are as they were, or that of a state on a loop in which time passes is at the cap
+-- the numbers after leaps: that of a state on a loop in which time passes goes to the cap
 pub data Leapt (G : Chart) (go : ℕ → Bool) (n cap : ℕ) (old : List ℕ) : List ℕ → Type 0 where
-  stays : Leapt G go n cap old old
-  leaps :
-      (r : ℕ) → r < n → 1 ≤ num old r → num old r < cap → Circled G go r → Leapt G go n cap old (set old r cap)
+  none : Leapt G go n cap old old
+  more :
+      {vs : List ℕ} → Leapt G go n cap old vs → (r : ℕ) → r < n → 1 ≤ num vs r → num vs r < cap → Circled G go r →
+      Leapt G go n cap old (set vs r cap)

@@ -239,33 +239,95 @@ pub fn least(chart: &[u8], n: usize, m: usize, go: &[u8], numbers: &mut [u32])
     fall(chart, n, m, go, &mut hints, numbers);
 }
 
-// The number of the state that the hints lead to goes to the cap, if they lead round from there and time passes.
+// How many arrows a loop may have, and the cap.
+struct Reach {
+    most: usize,
+    cap: u32,
+}
+
+// The number of state r goes to the cap, if the hints lead round from there and time passes.
 fn leap(
+    reach: Reach,
     chart: &[u8],
     n: usize,
     m: usize,
-    cap: u32,
     hints: &[usize; 256],
     go: &[u8],
-    from: usize,
+    r: usize,
     numbers: &mut [u32],
 )
-    requires { ⌜ Lent (now chart) n m (now go) (now numbers) × (from < n) ⌝ }
-    ensures { λ _. ⌜ Leapt (chartOf (now (chart .entry))) (flag (now (go .entry))) n cap
+    requires { ⌜ Lent (now chart) n m (now go) (now numbers) × (r < n) ⌝ }
+    ensures { λ _. ⌜ Leapt (chartOf (now (chart .entry))) (flag (now (go .entry))) n (reach .cap)
         (now (numbers .entry)) (now (numbers .exit)) ⌝ }
 {
-    let r = hints::follow(chart, n, m, hints, from);
     let v = numbers[r];
     if v == 0 {
         return;
     }
-    if cap <= v {
+    if reach.cap <= v {
         return;
     }
-    if !hints::circles(chart, n, m, hints, go, r) {
+    if !hints::circles(chart, n, m, reach.most, hints, go, r) {
         return;
     }
-    numbers[r] = cap;
+    numbers[r] = reach.cap;
+}
+
+// The same of every state.
+fn leap_everywhere(
+    reach: Reach,
+    chart: &[u8],
+    n: usize,
+    m: usize,
+    hints: &[usize; 256],
+    go: &[u8],
+    numbers: &mut [u32],
+)
+    requires { ⌜ Lent (now chart) n m (now go) (now numbers) × (reach .cap ≤ highest) ⌝ }
+    ensures { λ _. ⌜ Leapt (chartOf (now (chart .entry))) (flag (now (go .entry))) n (reach .cap)
+        (now (numbers .entry)) (now (numbers .exit)) ⌝ }
+{
+    let mut r = 0;
+    while r < n {
+        leap(reach, chart, n, m, hints, go, r, numbers);
+        r += 1;
+    }
+}
+
+// Loops are looked for after so many sweeps: where the hints lead from the state that changed last; and, once it has taken
+// some sweeps, from every state, loops of as many arrows as there were sweeps.
+fn leaps(
+    reach: Reach,
+    chart: &[u8],
+    n: usize,
+    m: usize,
+    hints: &[usize; 256],
+    go: &[u8],
+    last: usize,
+    numbers: &mut [u32],
+)
+    requires { ⌜ Lent (now chart) n m (now go) (now numbers) × (reach .cap ≤ highest) × (last < n) ⌝ }
+    ensures { λ _. ⌜ Leapt (chartOf (now (chart .entry))) (flag (now (go .entry))) n (reach .cap)
+        (now (numbers .entry)) (now (numbers .exit)) ⌝ }
+{
+    let far = Reach {
+        most: n,
+        cap: reach.cap,
+    };
+    leap(
+        far,
+        chart,
+        n,
+        m,
+        hints,
+        go,
+        hints::follow(chart, n, m, hints, last),
+        numbers,
+    );
+    if reach.most < 4 {
+        return;
+    }
+    leap_everywhere(reach, chart, n, m, hints, go, numbers);
 }
 
 // One more than the sweeps done, up to n.
@@ -308,7 +370,8 @@ fn rise(
         if last == 0 {
             return;
         }
-        leap(chart, n, m, cap, hints, go, last - 1, numbers);
+        let reach = Reach { most: done, cap };
+        leaps(reach, chart, n, m, hints, go, last - 1, numbers);
         back = !back;
         done = counted(done, n);
     }

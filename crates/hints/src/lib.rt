@@ -37,15 +37,24 @@ fn either(passes: bool, most: u32) -> bool
     passes
 }
 
-// The hints lead from r through go back to r, and time can pass on the way. Whatever the arrows weigh, that is a loop.
-pub fn circles(chart: &[u8], n: usize, m: usize, hints: &[usize; 256], go: &[u8], r: usize) -> bool
+// The hints lead from r through go back to r, by so many arrows at most, and time can pass on the way. Whatever the arrows
+// weigh, that is a loop.
+pub fn circles(
+    chart: &[u8],
+    n: usize,
+    m: usize,
+    most: usize,
+    hints: &[usize; 256],
+    go: &[u8],
+    r: usize,
+) -> bool
     requires { ⌜ Passed (now chart) n m × (length (now go) ≡ n) × (r < n) ⌝ }
     ensures { λ b. ⌜ Circles b (chartOf (now (chart .entry))) (flag (now (go .entry))) r ⌝ }
 {
     let mut at = r;
     let mut passes = false;
     let mut k = 0;
-    while k < n {
+    while k < most {
         let i = hints[at];
         if m <= i {
             return false;

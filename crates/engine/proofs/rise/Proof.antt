@@ -6,11 +6,10 @@ use denote.Ref.{now}
 use Rattle.engine.specs.Change.{total}
 use Rattle.engine.specs.Parts.{Lent}
 use Rattle.engine.proofs.Limits.{lent-size}
+use Rattle.engine.proofs.Leapt.{leapt-lent, leapt-total}
 use Rattle.engine.proofs.Sweeps.{
   Rises,
   swept-lent,
-  leapt-lent,
-  leapt-total,
   rises-none,
   rises-more,
   rises-leap,
@@ -65,15 +64,16 @@ returns c =
     rises-all (start .pre .0 .passed) (now (a .go)) (now (a .numbers)) (start .pre .0 .numbers .size) (a .ticks)
     (a .cap) (after swept .1) (swept .sweep .ensures) (c .if1 .taken)
 
-sub-leap : tie.Need-sub-leap Inv-loop μ-loop
-sub-leap c = omega (arith, c .before .if1 .left)
+sub-leaps : tie.Need-sub-leaps Inv-loop μ-loop
+sub-leaps c = omega (arith, c .before .if1 .left)
 
-leap-requires : tie.Need-leap-requires Inv-loop μ-loop
-leap-requires c κs =
+leaps-requires : tie.Need-leaps-requires Inv-loop μ-loop
+leaps-requires c κs =
     let swept = c .before .before .before .before .before in
+    let start = swept .before .before .before .before .before .before .before in
     let lent = after swept .0 in
     let left = c .before .before .if1 .left in
-    (lent, omega (arith, swept .sweep .ensures .changed .state, lent .numbers .size, left))
+    (lent, start .pre .1, omega (arith, swept .sweep .ensures .changed .state, lent .numbers .size, left))
 
 counted-requires : tie.Need-counted-requires Inv-loop μ-loop
 counted-requires c κs = c .before .before .before .before .before .before .before .before .before .before .before .loop .inv .0
@@ -83,7 +83,7 @@ loop-less c =
     let leapt = c .before .before .before in
     let swept = leapt .before .before .before .before .before .before in
     let first = swept .sweep .ensures .changed .nearer (leapt .before .before .before .if1 .left) in
-    omega (arith, first, leapt-total (after swept .0 .numbers .size) (leapt .leap .ensures))
+    omega (arith, first, leapt-total (after swept .0 .numbers .size) (leapt .leaps .ensures))
 
 loop-again : tie.Need-loop-again Inv-loop μ-loop
 loop-again c =
@@ -93,9 +93,9 @@ loop-again c =
     let a = start .args in
     let was = after swept in (
       omega (arith, c .counted .ensures),
-      leapt-lent (start .pre .1) (was .0) (leapt .leap .ensures),
+      leapt-lent (start .pre .1) (was .0) (leapt .leaps .ensures),
       rises-leap (start .pre .0 .passed) (now (a .go)) (now (a .numbers)) (start .pre .0 .numbers .size) (a .ticks)
-          (a .cap) (omega (arith, c .counted .ensures)) (was .1) (leapt .leap .ensures),
+          (a .cap) (omega (arith, c .counted .ensures)) (was .1) (leapt .leaps .ensures),
     )
 
 pub rise-spec : {M : Type 1} → statement M
@@ -108,8 +108,8 @@ rise-spec =
     sweep-requires
     same-length
     returns
-    sub-leap
-    leap-requires
+    sub-leaps
+    leaps-requires
     counted-requires
     loop-less
     loop-again)

@@ -17,11 +17,11 @@ use Rattle.hints.proofs.circles.Statement.{statement}
 use Rattle.hints.proofs.circles.Tie as tie
 
 abbrev Inv-loop : tie.InvT-loop
-Inv-loop chart n m hints go r at₀ passes₀ k₀ at passes k =
-    (k ≤ n) × (at < n) × Led (chartOf chart) (flag go) r at passes
+Inv-loop chart n m most hints go r at₀ passes₀ k₀ at passes k =
+    (k ≤ most) × (at < n) × Led (chartOf chart) (flag go) r at passes
 
 abbrev μ-loop : tie.MeasureT-loop
-μ-loop chart n m hints go r at₀ passes₀ k₀ at passes k = n - k
+μ-loop chart n m most hints go r at₀ passes₀ k₀ at passes k = most - k
 
 loop-holds : tie.Need-loop-holds Inv-loop μ-loop
 loop-holds c = (omega arith, c .before .before .pre .2, led-none)

@@ -1,0 +1,44 @@
+-- A leap where the hints lead, then leaps everywhere.
+use Rattle.engine.proofs.Leapt.{leapt-both, leapt-lent}
+use borrow.Author.Needs.{needs}
+use Rattle.engine.proofs.leaps.Statement.{statement}
+use Rattle.engine.proofs.leaps.Tie as tie
+
+follow-requires : tie.Need-follow-requires
+follow-requires c κs = search needs
+
+leap-requires : tie.Need-leap-requires
+leap-requires c κs = search needs
+
+same-length : tie.Need-same-length
+same-length c = search needs
+
+returns : tie.Need-returns
+returns c = search needs
+
+leap-everywhere-requires : tie.Need-leap-everywhere-requires
+leap-everywhere-requires c κs =
+    let leapt = c .before .before .before .before .before in
+    let p = leapt .before .before .before .before .before .before .pre in
+    (leapt-lent (p .1) (p .0) (leapt .leap .ensures), p .1)
+
+same-length-2 : tie.Need-same-length-2
+same-length-2 c = search needs
+
+returns-2 : tie.Need-returns-2
+returns-2 c =
+    let all = c .before .before in
+    let first = all .before .before .before .before .before .before in
+    leapt-both (first .leap .ensures) (all .leap-everywhere .ensures)
+
+pub leaps-spec : {M : Type 1} → statement M
+leaps-spec =
+    tie.close
+    (tie.spec
+    follow-requires
+    leap-requires
+    same-length
+    returns
+    leap-everywhere-requires
+    same-length-2
+    returns-2)
