@@ -3,13 +3,14 @@
 use crate::bytes::{self, Arrow, NO_END};
 use crate::random::Random;
 
-pub const NAMES: [&str; 6] = ["random", "chain", "chain-loop", "grid", "regular", "dense"];
+pub const NAMES: [&str; 7] = ["random", "waiting", "chain", "chain-loop", "grid", "regular", "dense"];
 
 /// The chart of the family with n states and m arrows, m at least n; no such family gives none.
 pub fn chart(name: &str, n: usize, m: usize) -> Option<Vec<u8>> {
     let mut random = Random::new(1);
     let arrows = match name {
         "random" => random_arrows(n, m, &mut random),
+        "waiting" => waiting(n, m, &mut random),
         "chain" => chain(n, m, n - 1),
         "chain-loop" => chain(n, m, 0),
         "grid" => grid(n, m, &mut random),
@@ -39,6 +40,20 @@ pub fn random_arrows(n: usize, m: usize, random: &mut Random) -> Vec<Arrow> {
         let start = if i < n { i } else { random.below(n) };
         let end = random.below(n);
         arrows.push(slot(start, end, random));
+    }
+    random.shuffle(&mut arrows);
+    arrows
+}
+
+/// At each state an arrow to itself, to wait a minute, and the others random; every slot has an end, so that only loops go
+/// on without end.
+fn waiting(n: usize, m: usize, random: &mut Random) -> Vec<Arrow> {
+    let mut arrows = random_arrows(n, m, random);
+    for arrow in arrows.iter_mut().filter(|arrow| arrow.most == NO_END) {
+        arrow.most = arrow.fewest;
+    }
+    for (s, arrow) in arrows.iter_mut().take(n).enumerate() {
+        *arrow = Arrow { start: s as u16, end: s as u16, fewest: 1, most: 1 };
     }
     random.shuffle(&mut arrows);
     arrows

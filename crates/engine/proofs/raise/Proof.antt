@@ -1,4 +1,5 @@
 -- Nothing changes, or the number is set.
+use native.Mathlib.Omega.{arith}
 use denote.Ref.{now}
 use Rattle.engine.proofs.Arrows.{raise-stays, raise-moves}
 use borrow.Author.Needs.{needs}
@@ -17,7 +18,7 @@ shared-slice-read-kept c = search needs
 offered-requires : tie.Need-offered-requires
 offered-requires c κs =
     let start = c .before .before .before .before in
-    (start .pre .small .most, start .pre .capped (start .args .a .end))
+    (omega (arith, start .pre .small .fewest, start .pre .small .most), start .pre .capped (start .args .a .end))
 
 kept-requires : tie.Need-kept-requires
 kept-requires c κs = search needs
