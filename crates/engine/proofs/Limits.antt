@@ -1,4 +1,4 @@
--- No change passes the highest number, so none does in rounds.
+-- No change passes the highest number, so none does in a sweep.
 use mathlib.Core.Path.{_≡_, sym, subst, _∙_}
 use mathlib.Core.List.{List}
 use mathlib.Core.Bool.{Bool}

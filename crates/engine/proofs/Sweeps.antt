@@ -3,13 +3,15 @@ use mathlib.Core.Path.{_≡_, refl, sym, ap, subst, subst₂, _∙_}
 use mathlib.Core.Logic.{_↔_}
 use mathlib.Core.Bool.{Bool, true, false}
 use mathlib.Core.List.{List, map, List·Memᴰ, Memᴰ·map, Memᴰ·of-map}
-use Prim.Native.Nat.{ℕ, suc, _≤_, _<_}
+use Prim.Native.Nat.{ℕ, suc, _+_, _≤_, _<_}
 use native.Mathlib.Omega.{arith}
 use lib.ListN.{length}
-use Rattle.tctl.specs.Chart.{Arrow, states}
+use Rattle.truth.proofs.Truth.{Yes}
+use Rattle.tctl.specs.Chart.{Chart, Arrow, states}
 use Rattle.tctl.specs.Tabulate.{tabulate}
 use Rattle.tctl.proofs.Tabulate.{mem-tabulate, tabulate-mem}
 use Rattle.tctl.proofs.Drawn.{Drawn}
+use Rattle.tctl.proofs.Path.{Path, stop, step, minutes}
 use Rattle.model.specs.Engine.{num, rounds, raise, greatest}
 use Rattle.model.specs.Marks.{flag}
 use Rattle.model.specs.Weighed.{weight, weighing, weighed, weighedChart}
@@ -26,6 +28,7 @@ use Rattle.chart.specs.Bytes.{arrowWords, arrowOf, chartOf}
 use Rattle.chart.specs.Shape.{Passed}
 use Rattle.chart.proofs.Chart.{arrow-mem, arrow-of}
 use Rattle.chart.proofs.Reading.{has-states, drawn}
+use Rattle.hints.specs.Circle.{Leads, here, next}
 use Rattle.engine.specs.declared.Change.{Change}
 use Rattle.engine.specs.declared.Change.the-variants.{Lower, Raise}
 use Rattle.engine.specs.Change.{highest, top, changeOf, turned, listed, lowered, raised}
@@ -41,6 +44,13 @@ Falls chart go old vs = Falling (chartOf chart) (flag go) (num old) vs
 -- numbers on their way up from the old ones, after k sweeps
 abbrev pub Rises : List ℕ → Bool → ℕ → List ℕ → List ℕ → ℕ → List ℕ → Type 0
 Rises chart ticks cap go old k vs = Rising (weighedChart ticks (chartOf chart)) (flag go) cap (num old) k vs
+
+-- steps through go are a path
+led-path :
+    {G : Chart} {go : ℕ → Bool} {s t k : ℕ} → Leads G go t s k →
+    (p : Path G (Yes go) (λ x. x ≡ t) s) × (minutes p ≡ k)
+led-path here = (stop refl, refl)
+led-path (next {d = d} y x w) = let p = led-path w in (step y x (p .0), ap (λ k. d + k) (p .1))
 
 -- what is lent is as good after a sweep
 pub swept-lent :
@@ -137,13 +147,15 @@ module _ {chart : List ℕ} {n m : ℕ} (p : Passed chart n m) (go : List ℕ) w
       abbrev rise : Bool → Change
       rise leap = Raise (record { ticks = ticks; leap = leap; cap = cap })
 
+      -- The arrows tried are those of the weighed chart, so a sweep over them is one of the model's, in some order.
       pub rises-more :
           {leap back : Bool} {k r : ℕ} {vs new : List ℕ} → (leap ≡ true → n ≤ k) →
           Rises chart ticks cap go old k vs → Swept (rise leap) back chart m go r vs new →
           Rises chart ticks cap go old (suc k) new
       unfolding changeOf
       rises-more {leap} {back} {k} {vs = vs} late f t =
-          subst (Rises chart ticks cap go old (suc k)) (round-map (raise leap (flag go) cap) (weighing ticks) arrows vs ∙ sym (t .changed .is))
+          subst (Rises chart ticks cap go old (suc k))
+          (round-map (raise leap (flag go) cap) (weighing ticks) arrows vs ∙ sym (t .changed .is))
           (rising-round heavy (flag go) cap (num old) leap (λ e. omega (arith, late e, has-states p))
           (map (weighing ticks) arrows) members vs f)
         where
@@ -161,15 +173,18 @@ module _ {chart : List ℕ} {n m : ℕ} (p : Passed chart n m) (go : List ℕ) w
               (a : Arrow) →
               List·Memᴰ a (map (weighing ticks) arrows) ↔ List·Memᴰ a (map (weighing ticks) (chartOf chart .arrows))
           members a =
-              (across arrows (chartOf chart .arrows) (λ b. tried-iff back b .0) a, across (chartOf chart .arrows) arrows (λ b. tried-iff back b .1) a)
+              let all = chartOf chart .arrows in
+              (across arrows all (λ b. tried-iff back b .0) a, across all arrows (λ b. tried-iff back b .1) a)
 
+      -- a leap is to where a loop in which time passes takes the number
       pub rises-leap :
           {j k : ℕ} {vs new : List ℕ} → j ≤ k → Rises chart ticks cap go old k vs →
           Leapt (chartOf chart) (flag go) n cap vs new → Rises chart ticks cap go old j new
       rises-leap h f none = rising-less heavy (flag go) cap (num old) h f
       rises-leap h f (more t r l some less on) =
-          rising-loop heavy (flag go) cap (num old) (rises-leap h f t) r (omega (arith, has-states p)) some less
-          (on ticks .0) (on ticks .1)
+          let w = led-path (on ticks .2) in
+          rising-loop heavy (flag go) cap (num old) (rises-leap h f t) r (omega (arith, has-states p)) some less (w .0)
+          (omega (arith, w .1, on ticks .1))
 
       -- numbers that no arrow raises are what the rounds make
       pub rises-all :

@@ -26,7 +26,7 @@ use Rattle.engine.proofs.Limits.{lent-as, round-limit}
 abbrev arrow : List ℕ → ℕ → Arrow
 arrow chart i = arrowOf (arrowWords chart i)
 
--- of m arrows, one is tried after as many others as the one that is tried after it
+-- the turned number is one of the m, and turning twice gives it back
 pub turned-below : (back : Bool) (m i : ℕ) → i < m → turned back m i < m
 turned-below true m i l = omega arith
 turned-below false m i l = l
@@ -53,7 +53,8 @@ module _ {change : Change} {back : Bool} {go chart old : List ℕ} {m : ℕ} whe
         quiet = λ z k l. absurd (let z : ⊥ = omega arith in z);
       }
 
-  -- one arrow more: the last of the arrows changes what those before it left
+  -- One arrow more: the last of the arrows changes what those before it left. If none of them moved a number, each was
+  -- tried on the old numbers; if one did, they are nearer, for no later arrow takes them back.
   pub tried-more :
       {i q r : ℕ} {vs new : List ℕ} → Tried change back go chart m i q old vs →
       Changed change r vs (changeOf change (flag go) (arrow chart (turned back m i)) vs) new →
@@ -115,7 +116,9 @@ module _ {change : Change} {back : Bool} {go chart old : List ℕ} {m : ℕ} whe
         i ≡ m → Tried change back go chart m i r old new → Swept change back chart m go r old new
     tried-all e t =
         record {
-          changed = subst (λ k. Changed change r old (round (changeOf change (flag go)) (listed back m chart k) old) new) e (t .changed);
+          changed =
+              subst (λ k. Changed change r old (round (changeOf change (flag go)) (listed back m chart k) old) new) e
+              (t .changed);
           quiet = λ z k l. same z k l;
         }
       where

@@ -28,7 +28,7 @@ pub record Placed (w : ArrowWords) (go vs : List ℕ) : Type 0 where
   pub row : length go ≡ length vs
   pub capped : (s : ℕ) → num vs s ≤ highest
 
--- the numbers became as expected: r is 0 if that is as they were, else 1 more than the state whose number moved last
+-- the numbers became as expected; r is 0 just if none moved, else 1 more than some state, which is a hint and no more
 pub record Changed (change : Change) (r : ℕ) (old expected new : List ℕ) : Type 0 where
   pub is : new ≡ expected
   pub state : r ≤ length new
@@ -36,7 +36,8 @@ pub record Changed (change : Change) (r : ℕ) (old expected new : List ℕ) : T
   pub nearer : ¬ (r ≡ 0) → left change new < left change old
 
 -- after a sweep: each arrow was tried, in one order or the other; if none moved a number, none would
-pub record Swept (change : Change) (back : Bool) (chart : List ℕ) (m : ℕ) (go : List ℕ) (r : ℕ) (old new : List ℕ) : Type 0 where
+pub record Swept (change : Change) (back : Bool) (chart : List ℕ) (m : ℕ) (go : List ℕ) (r : ℕ) (old new : List ℕ) :
+    Type 0 where
   pub changed : Changed change r old (round (changeOf change (flag go)) (listed back m chart m) old) new
   pub quiet :
       r ≡ 0 → (i : ℕ) → i < m → changeOf change (flag go) (arrowOf (arrowWords chart i)) new ≡ new

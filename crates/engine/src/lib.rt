@@ -1,5 +1,5 @@
-// The engine on lent numbers, one a state: sweeps over a chart's arrows, each of which may change the number of its start,
-// until none does. A row of marks says through which states it goes.
+// The engine on lent numbers, one a state: sweeps over a chart's arrows, each of which may change the number of its
+// start, until none does. A row of marks says through which states it goes.
 ghost use mathlib.Core.Path.{_≡_};
 ghost use mathlib.Core.Bool.{cond, _&&_};
 ghost use Prim.Native.Nat.{_+_, _≤_, _<_, min};
@@ -71,8 +71,8 @@ fn reached(climb: Climb, v: u32) -> u32
     v
 }
 
-// What counts at a state with that mark for a number to be lowered: v, and past every number without the mark 1. An answer
-// instead of an early end, since whether a state is gone through is a test that no processor foretells.
+// What counts at a state with that mark for a number to be lowered: v, and past every number without the mark 1. An
+// answer instead of an early end, since whether a state is gone through is a test that no processor foretells.
 fn barred(mark: u8, v: u32) -> u32
     ensures { λ r. ⌜ r ≡ cond (eqb mark 1) v 131072 ⌝ }
 {
@@ -294,8 +294,16 @@ fn leap_everywhere(
     }
 }
 
-// Loops are looked for after so many sweeps: where the hints lead from the state that changed last; and, once it has taken
-// some sweeps, from every state, loops of as many arrows as there were sweeps.
+// Whether loops are looked for everywhere after so many sweeps. Seldom, for it takes n times as many arrows.
+fn due(done: usize) -> bool {
+    match done {
+        4 | 8 | 16 | 32 | 64 | 128 => true,
+        _ => false,
+    }
+}
+
+// Loops are looked for: where the hints lead from the state that changed last, and now and then from every state, loops
+// of as many arrows as there were sweeps before.
 fn leaps(
     reach: Reach,
     chart: &[u8],
@@ -324,7 +332,7 @@ fn leaps(
         hints::follow(chart, n, m, hints, last),
         numbers,
     );
-    if reach.most < 4 {
+    if !due(reach.most) {
         return;
     }
     leap_everywhere(reach, chart, n, m, hints, go, numbers);
@@ -341,8 +349,8 @@ fn counted(done: usize, n: usize) -> usize
     n
 }
 
-// Numbers are raised, on and back, until no arrow raises one. What goes round a loop in which time passes rises without end,
-// and so does what rises after n sweeps.
+// Numbers are raised, on and back, until no arrow raises one. What goes round a loop in which time passes rises without
+// end, and so does what rises after n sweeps.
 fn rise(
     chart: &[u8],
     n: usize,

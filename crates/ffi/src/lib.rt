@@ -1,5 +1,5 @@
-// The open calls for C and Rust, with the promises that they have themselves. What C has no form for crosses as numbers:
-// the kind of a rule, and the place of a row instead of the part itself.
+// The open calls for C and Rust, with the promises that they have themselves. What C has no form for crosses as
+// numbers: the kind of a rule, and the place of a row instead of the part itself.
 ghost use mathlib.Core.Path.{_≡_};
 ghost use Rattle.rows.specs.Row.{placeOf};
 ghost use Rattle.detail.specs.Refusals.{mapRefusal};
@@ -59,8 +59,8 @@ pub extern "C" fn doilystrand_map_check(detail: &[u8], overview: &[u8], map: &[u
     detail::map_check(detail, overview, map)
 }
 
-// Row's index form: the place of row t in the chosen table, of which only the length counts. The choice is 1, true, for the
-// detail.
+// Row's index form: the place of row t in the chosen table, of which only the length counts. The choice is true for
+// the detail.
 #[no_mangle]
 pub extern "C" fn doilystrand_row(
     overview: usize,

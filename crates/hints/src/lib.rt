@@ -1,12 +1,14 @@
-// Hints: for each state an arrow that it may leave by, 2,048 for none. They are taken on trust by nobody: what is found by
+// Hints: for each state an arrow that it may leave by, 2,048 for none. Nobody takes them on trust: what is found by
 // them is tested.
 ghost use mathlib.Core.Path.{_≡_};
+ghost use mathlib.Core.Bool.{true, cond};
 ghost use Prim.Native.Nat.{_<_};
 ghost use lib.ListN.{length};
+ghost use lib.Dec.{eqb};
 ghost use Rattle.model.specs.Marks.{flag};
 ghost use Rattle.chart.specs.Bytes.{chartOf};
 ghost use Rattle.chart.specs.Shape.{Passed};
-ghost use Rattle.hints.specs.Circle.{Circles, Either};
+ghost use Rattle.hints.specs.Circle.{Circles};
 
 // The state that n arrows lead to, one after the other as the hints say, or fewer where there is no hint.
 pub fn follow(chart: &[u8], n: usize, m: usize, hints: &[usize; 256], from: usize) -> usize
@@ -29,7 +31,7 @@ pub fn follow(chart: &[u8], n: usize, m: usize, hints: &[usize; 256], from: usiz
 
 // Time passed before, or can pass on an arrow with the word most.
 fn either(passes: bool, most: u32) -> bool
-    ensures { λ r. ⌜ Either r passes most ⌝ }
+    ensures { λ r. ⌜ r ≡ cond (eqb most 0) passes true ⌝ }
 {
     if most != 0 {
         return true;
@@ -37,8 +39,8 @@ fn either(passes: bool, most: u32) -> bool
     passes
 }
 
-// The hints lead from r through go back to r, by so many arrows at most, and time can pass on the way. Whatever the arrows
-// weigh, that is a loop.
+// The hints lead from r through go back to r, by so many arrows at most, and time can pass on the way. Whatever the
+// arrows weigh, that is a loop.
 pub fn circles(
     chart: &[u8],
     n: usize,

@@ -129,6 +129,7 @@ module _ {G : Chart} (dr : Drawn G) (go : ℕ → Bool) (base : ℕ → ℕ) whe
       let c = fall .found s l in
       omega (arith, covered (steps (c .path)) s l (c .worth) (c .path) (omega arith), c .enough)
 
+  -- Neither of two such lists is above the other, however they came about.
   pub falling-unique :
       {us vs : List ℕ} → Falling G go base us → ((k : ℕ) → Covered G go base k us) →
       Falling G go base vs → ((k : ℕ) → Covered G go base k vs) → us ≡ vs

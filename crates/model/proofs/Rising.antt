@@ -267,6 +267,8 @@ module _ {G : Chart} (dr : Drawn G) (go : ℕ → Bool) (cap : ℕ) (base : ℕ 
       base-alone : ¬ (num us s ≤ cap) → num us s ≤ num vs s
       base-alone n = omega (arith, r .capped s l (omega arith), t .above s l)
 
+  -- Each of two such lists has what the paths behind the other's numbers come to, so neither is below the other. In
+  -- which order the arrows were tried, and when numbers went to the cap, does not matter.
   pub rising-unique :
       {j k : ℕ} {us vs : List ℕ} → Rising G go cap base j us → Quiet G go cap us → Rising G go cap base k vs →
       Quiet G go cap vs → us ≡ vs

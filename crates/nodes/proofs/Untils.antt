@@ -37,7 +37,7 @@ module _
     {go go′ : ℕ → Bool}
     (goes : Same n go go′)
     {vs ws : List ℕ} where
-  -- The rounds that were made, through go and from vs, are those of the least numbers, and of the greatest.
+  -- The numbers that were come to, through go and from vs, are the least, and the greatest.
   pub is-least :
       (cap : ℕ) (end : ℕ → Bool) → vs ≡ tabulate n (λ s. cond (end s) 0 cap) → ws ≡ lowered arrows n go vs →
       ws ≡ least arrows n cap go′ end

@@ -23,7 +23,9 @@ within length n t = lies (ltb 0 n) (leb (t * n + n) length) refl
     at : Bool → Place
     at b = cond b (record { start = t * n; size = n }) (record { start = 0; size = 0 })
 
-    lies : (b inTable : Bool) → leb (t * n + n) length ≡ inTable → at (b && inTable) .start + at (b && inTable) .size ≤ length
+    lies :
+        (b inTable : Bool) → leb (t * n + n) length ≡ inTable →
+        at (b && inTable) .start + at (b && inTable) .size ≤ length
     lies true true e = leb-true (t * n + n) length e
     lies true false e = omega arith
     lies false b e = omega arith

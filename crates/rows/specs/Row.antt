@@ -3,7 +3,7 @@ use mathlib.Core.Path.{_≡_}
 use mathlib.Core.Bool.{cond, _&&_}
 use mathlib.Core.List.{List}
 use Prim.Native.Nat.{ℕ, _+_, _*_}
-use lib.ListN.{length, take, drop}
+use lib.ListN.{take, drop}
 use lib.Dec.{leb, ltb}
 use denote.Ref.{RefT, ptr, now}
 use Rattle.rows.specs.declared.Place.{Place}
@@ -15,14 +15,11 @@ abbrev pub chosen : Choice → RefT (List ℕ) → RefT (List ℕ) → RefT (Lis
 chosen Overview overview detail = overview
 chosen Detail overview detail = detail
 
--- where row t, the n bytes from t × n on, lies in a table of that length; "an empty part of that table if the row doesn't
+-- where row t, the n bytes from t × n on, lies in a table of that size; "an empty part of that table if the row doesn't
 -- lie wholly in it. n = 0 gives the empty part."
 abbrev pub placeOf : ℕ → ℕ → ℕ → Place
-placeOf length n t =
-    cond (ltb 0 n && leb (t * n + n) length) (record { start = t * n; size = n }) (record { start = 0; size = 0 })
-
-abbrev pub partOf : List ℕ → ℕ → ℕ → Place
-partOf table n t = placeOf (length table) n t
+placeOf size n t =
+    cond (ltb 0 n && leb (t * n + n) size) (record { start = t * n; size = n }) (record { start = 0; size = 0 })
 
 -- "the part of the chosen table ..., itself and not a copy": the table's bytes there, behind its own pointer moved on
 pub record Part (table part : RefT (List ℕ)) (place : Place) : Type 0 where

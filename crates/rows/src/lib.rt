@@ -1,6 +1,7 @@
 // The call row: the part of the overview's or the detail's marks table that holds a row, itself and not a copy.
 ghost use mathlib.Core.Path.{_≡_};
-ghost use Rattle.rows.specs.Row.{chosen, Part, placeOf, partOf};
+ghost use lib.ListN.{length};
+ghost use Rattle.rows.specs.Row.{chosen, Part, placeOf};
 
 // Which of the two tables.
 pub enum Choice {
@@ -15,14 +16,14 @@ pub struct Place {
     pub size: usize,
 }
 
-// The place of row t in a table of length bytes with n marks a row.
-pub fn row_place(length: usize, n: usize, t: usize) -> Place
-    ensures { λ r. ⌜ r ≡ placeOf length n t ⌝ }
+// The place of row t in a table of so many bytes with n marks a row.
+pub fn row_place(bytes: usize, n: usize, t: usize) -> Place
+    ensures { λ r. ⌜ r ≡ placeOf bytes n t ⌝ }
 {
     if n == 0 {
         return Place { start: 0, size: 0 };
     }
-    if length / n <= t {
+    if bytes / n <= t {
         return Place { start: 0, size: 0 };
     }
     Place {
@@ -33,7 +34,7 @@ pub fn row_place(length: usize, n: usize, t: usize) -> Place
 
 // Row t of one table with n marks a row.
 fn part(table: &[u8], n: usize, t: usize) -> &[u8]
-    ensures { λ r. ⌜ Part (table .entry) r (partOf (now (table .entry)) n t) ⌝ }
+    ensures { λ r. ⌜ Part (table .entry) r (placeOf (length (now (table .entry))) n t) ⌝ }
 {
     let at = row_place(table.len(), n, t);
     let start = at.start;
@@ -43,7 +44,7 @@ fn part(table: &[u8], n: usize, t: usize) -> &[u8]
 
 pub fn row<'a>(overview: &'a [u8], detail: &'a [u8], choice: Choice, n: usize, t: usize) -> &'a [u8]
     ensures { λ r. ⌜ Part (chosen choice (overview .entry) (detail .entry)) r
-        (partOf (now (chosen choice (overview .entry) (detail .entry))) n t) ⌝ }
+        (placeOf (length (now (chosen choice (overview .entry) (detail .entry)))) n t) ⌝ }
 {
     match choice {
         Choice::Overview => part(overview, n, t),

@@ -19,7 +19,8 @@ abbrev μ-loop : tie.MeasureT-loop
 loop-holds : tie.Need-loop-holds Inv-loop μ-loop
 loop-holds c =
     let start = c .before .before .before in
-    (start .pre, falls-none (start .pre .passed) (now (start .args .go)) (now (start .args .numbers)) (start .pre .numbers .size))
+    let a = start .args in
+    (start .pre, falls-none (start .pre .passed) (now (a .go)) (now (a .numbers)) (start .pre .numbers .size))
 
 sweep-requires : tie.Need-sweep-requires Inv-loop μ-loop
 sweep-requires c κs = (c .before .before .loop .inv .0, omega arith)

@@ -10,6 +10,9 @@ follow-requires c κs = search needs
 leap-requires : tie.Need-leap-requires
 leap-requires c κs = search needs
 
+due-requires : tie.Need-due-requires
+due-requires c κs = search needs
+
 same-length : tie.Need-same-length
 same-length c = search needs
 
@@ -37,6 +40,7 @@ leaps-spec =
     (tie.spec
     follow-requires
     leap-requires
+    due-requires
     same-length
     returns
     leap-everywhere-requires

@@ -28,7 +28,10 @@ abbrev μ-loop : tie.MeasureT-loop
 loop-holds : tie.Need-loop-holds Inv-loop μ-loop
 loop-holds c =
     let start = c .before .before .before in
-    (omega arith, start .pre .0, rises-none (start .pre .0 .passed) (now (start .args .go)) (now (start .args .numbers)) (start .pre .0 .numbers .size) (start .args .ticks) (start .args .cap))
+    let p = start .pre .0 in
+    let a = start .args in
+    let rises = rises-none (p .passed) (now (a .go)) (now (a .numbers)) (p .numbers .size) (a .ticks) (a .cap) in
+    (omega arith, p, rises)
 
 sweep-requires : tie.Need-sweep-requires Inv-loop μ-loop
 sweep-requires c κs = (c .before .before .loop .inv .1, c .before .before .before .before .before .before .pre .1)
@@ -76,7 +79,8 @@ leaps-requires c κs =
     (lent, start .pre .1, omega (arith, swept .sweep .ensures .changed .state, lent .numbers .size, left))
 
 counted-requires : tie.Need-counted-requires Inv-loop μ-loop
-counted-requires c κs = c .before .before .before .before .before .before .before .before .before .before .before .loop .inv .0
+counted-requires c κs =
+    c .before .before .before .before .before .before .before .before .before .before .before .loop .inv .0
 
 loop-less : tie.Need-loop-less Inv-loop μ-loop
 loop-less c =

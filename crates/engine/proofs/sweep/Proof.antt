@@ -24,7 +24,8 @@ step-requires c κs =
     let turned = c .before .before in
     let at-loop = turned .before .before in
     let start = at-loop .before .before .before .before in
-    let below = turned-below (start .args .back) (start .args .m) (at-loop .loop .i) (turned .before .loop-test .taken) in
+    let a = start .args in
+    let below = turned-below (a .back) (a .m) (at-loop .loop .i) (turned .before .loop-test .taken) in
     (tried-lent (start .pre .1) (start .pre .0) (at-loop .loop .inv .1), omega (arith, turned .turn .ensures, below))
 
 later-requires : tie.Need-later-requires Inv-loop μ-loop

@@ -1,4 +1,4 @@
--- The rounds go through every state, from a sure start.
+-- The sweeps go through every state, from a sure start.
 use native.Mathlib.Omega.{arith}
 use borrow.Author.Needs.{needs}
 use Rattle.nodes.specs.Untils.{sureStart}

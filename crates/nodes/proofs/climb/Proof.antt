@@ -1,4 +1,4 @@
--- The numbers and row t are filled from the marks as they came, and the rounds through row t are the model's.
+-- The numbers and row t are filled from the marks as they came; the sweeps through row t come to the model's numbers.
 use borrow.Author.Needs.{needs}
 use Rattle.nodes.proofs.Rows.{lent-written}
 use Rattle.nodes.proofs.Lent.{joins, numbered, rows-inside}

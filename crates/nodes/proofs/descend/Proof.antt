@@ -1,4 +1,4 @@
--- Row t is filled from the marks as they came, and the rounds through it are the model's.
+-- Row t is filled from the marks as they came, and the sweeps through it come to the model's numbers.
 use mathlib.Core.Bool.{false}
 use borrow.Author.Needs.{needs}
 use Rattle.nodes.proofs.Rows.{lent-written}

@@ -1,5 +1,5 @@
 -- The part at the row's place, which lies in the table.
-use mathlib.Core.Path.{refl, ap, sym, subst}
+use mathlib.Core.Path.{ap, sym, subst}
 use Prim.Native.Nat.{_+_, _≤_}
 use native.Mathlib.Omega.{arith}
 use native.Mathlib.Nat.{add-sub-cancel-left}

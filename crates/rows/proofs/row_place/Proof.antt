@@ -11,7 +11,7 @@ use Rattle.rows.proofs.row_place.Tie as tie
 -- past the two tests the row lies in the table
 lies :
     (c : tie.Else2) →
-    c .before .before .args .t * c .before .before .args .n + c .before .before .args .n ≤ c .before .before .args .length
+    c .before .before .args .t * c .before .before .args .n + c .before .before .args .n ≤ c .before .before .args .bytes
 lies c = inside _ _ _ (c .before .if1 .left) (c .if2 .left)
 
 returns : tie.Need-returns
@@ -23,7 +23,7 @@ div-if2 c = search needs
 returns-2 : tie.Need-returns-2
 returns-2 c =
     let a = c .before .before .args in
-    let far = outside (a .length) (a .n) (a .t) (c .before .if1 .left) (c .if2 .taken) in
+    let far = outside (a .bytes) (a .n) (a .t) (c .before .if1 .left) (c .if2 .taken) in
     simp (lt-ltb 0 (a .n) (omega arith), lt-leb _ _ far) refl
 
 mul-t5 : tie.Need-mul-t5
