@@ -1,11 +1,23 @@
-// Links the archive that `rt staticlib ffi` writes.
-use std::path::Path;
+// Links the archive that `rt staticlib ffi` writes: a copy of its own, so that no other archive named ffi can be meant.
+use std::path::PathBuf;
+use std::process::exit;
+
+// Build scripts run in the folder of their package.
+const ARCHIVE: &str = "../target/staticlib/libffi.a";
 
 fn main() {
-    let folder = Path::new(env!("CARGO_MANIFEST_DIR")).join("../target/staticlib");
-    let archive = folder.join("libffi.a");
-    assert!(archive.exists(), "{} is missing: run `rt staticlib ffi` first", archive.display());
+    println!("cargo:rerun-if-changed={ARCHIVE}");
+    let Some(folder) = std::env::var_os("OUT_DIR").map(PathBuf::from) else {
+        fail("OUT_DIR is not set: cargo runs this");
+    };
+    if let Err(why) = std::fs::copy(ARCHIVE, folder.join("libdoilystrand.a")) {
+        fail(&format!("target/staticlib/libffi.a can't be copied ({why}): run `rt staticlib ffi` first"));
+    }
     println!("cargo:rustc-link-search=native={}", folder.display());
-    println!("cargo:rustc-link-lib=static=ffi");
-    println!("cargo:rerun-if-changed={}", archive.display());
+    println!("cargo:rustc-link-lib=static=doilystrand");
+}
+
+fn fail(why: &str) -> ! {
+    eprintln!("{why}");
+    exit(1)
 }

@@ -3,7 +3,8 @@
 use crate::bytes::{self, Arrow, NO_END};
 use crate::random::Random;
 
-pub const NAMES: [&str; 7] = ["random", "waiting", "chain", "chain-loop", "grid", "regular", "dense"];
+pub const NAMES: [&str; 10] =
+    ["random", "waiting", "chain", "chain-loop", "chain-shuffled", "zigzag", "zigzag-loop", "grid", "regular", "dense"];
 
 /// The chart of the family with n states and m arrows, m at least n; no such family gives none.
 pub fn chart(name: &str, n: usize, m: usize) -> Option<Vec<u8>> {
@@ -13,13 +14,17 @@ pub fn chart(name: &str, n: usize, m: usize) -> Option<Vec<u8>> {
         "waiting" => waiting(n, m, &mut random),
         "chain" => chain(n, m, n - 1),
         "chain-loop" => chain(n, m, 0),
+        "chain-shuffled" => shuffled(chain(n, m, 0), &mut random),
+        "zigzag" => zigzag(n, chain(n, m, n - 1)),
+        "zigzag-loop" => zigzag(n, chain(n, m, 0)),
         "grid" => grid(n, m, &mut random),
         "regular" => regular(n, m, &mut random),
         // As many states as give every ordered pair about one arrow.
         "dense" => return Some(dense(m, &mut random)),
         _ => return None,
     };
-    let labels = if name.starts_with("chain") { end_labels(n) } else { spread_labels(n, &mut random) };
+    let one_way = name.starts_with("chain") || name.starts_with("zigzag");
+    let labels = if one_way { end_labels(n) } else { spread_labels(n, &mut random) };
     Some(bytes::chart(&labels, &arrows))
 }
 
@@ -45,8 +50,8 @@ pub fn random_arrows(n: usize, m: usize, random: &mut Random) -> Vec<Arrow> {
     arrows
 }
 
-/// At each state an arrow to itself, to wait a minute, and the others random; every slot has an end, so that only loops go
-/// on without end.
+/// At each state an arrow to itself, to wait a minute, and the others random; every slot has an end, so that only loops
+/// go on without end.
 fn waiting(n: usize, m: usize, random: &mut Random) -> Vec<Arrow> {
     let mut arrows = random_arrows(n, m, random);
     for arrow in arrows.iter_mut().filter(|arrow| arrow.most == NO_END) {
@@ -59,8 +64,9 @@ fn waiting(n: usize, m: usize, random: &mut Random) -> Vec<Arrow> {
     arrows
 }
 
-/// Arrow s to s + 1 is listed before s + 1 to s + 2, so a round over the arrows in their order settles one more state
-/// only. Copies stand side by side, for the same reason. The last state leads to `back`.
+/// Arrow s to s + 1 is listed before s + 1 to s + 2, copies side by side: the worst order for rounds that only go
+/// forward, where each settles one more state, and an easy one for sweeps that go on and back. The last state leads to
+/// `back`.
 fn chain(n: usize, m: usize, back: usize) -> Vec<Arrow> {
     let mut arrows = Vec::with_capacity(m);
     for s in 0..n {
@@ -71,6 +77,26 @@ fn chain(n: usize, m: usize, back: usize) -> Vec<Arrow> {
             arrows.push(Arrow { start: s as u16, end: end as u16, fewest, most: fewest + 10 });
         }
     }
+    arrows
+}
+
+/// Even starts ascending, then odd ones descending, so that a sweep in either direction settles about one more state of
+/// the chain only.
+fn zigzag(n: usize, mut arrows: Vec<Arrow>) -> Vec<Arrow> {
+    arrows.sort_by_key(|arrow| {
+        let s = usize::from(arrow.start);
+        if s % 2 == 0 {
+            s / 2
+        } else {
+            n - 1 - s / 2
+        }
+    });
+    arrows
+}
+
+/// The arrows in no order.
+fn shuffled(mut arrows: Vec<Arrow>, random: &mut Random) -> Vec<Arrow> {
+    random.shuffle(&mut arrows);
     arrows
 }
 

@@ -1,8 +1,8 @@
 //! Times the library beside the peer.
 //!
-//! `bench` prints the tables, `bench --quick` a shortened form. `bench --one FAMILY RULE library|peer COUNT` only runs
-//! one input that often, for counting instructions. `bench --files FAMILY RULE FOLDER` writes one input for the desk
-//! program. `bench --names` prints the families.
+//! `bench` prints the tables, `bench --quick` a shortened form; `bench --agree` only compares the two on all inputs.
+//! `bench --one FAMILY RULE library|peer COUNT` only runs one input that often, for counting instructions.
+//! `bench --files FAMILY RULE FOLDER` writes one input for the desk program. `bench --names` prints the families.
 
 mod input;
 mod report;
@@ -13,7 +13,9 @@ use std::process::ExitCode;
 use std::time::Duration;
 use timing::Plan;
 
-const USE: &str = "use: bench [--quick | --one FAMILY RULE library|peer COUNT | --files FAMILY RULE FOLDER | --names]";
+const USE: &str = "use: bench [--quick | --agree | --names]
+     bench --one FAMILY RULE library|peer COUNT
+     bench --files FAMILY RULE FOLDER";
 
 fn main() -> ExitCode {
     let words: Vec<String> = std::env::args().skip(1).collect();
@@ -31,6 +33,7 @@ fn run(words: &[&str]) -> Result<(), String> {
     match words {
         [] => report::all(&Plan { batches: 9, batch: Duration::from_millis(10) }),
         ["--quick"] => report::all(&Plan { batches: 3, batch: Duration::from_millis(1) }),
+        ["--agree"] => report::agreement(),
         ["--one", family, rule, program, count] => one(family, rule, program, count),
         ["--files", family, rule, folder] => files(family, rule, folder),
         ["--names"] => {

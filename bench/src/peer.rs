@@ -47,7 +47,7 @@ fn accept(chart: &[u8], rule: &[u8], marks: &mut [u8], scratch: &mut [u32]) -> R
     let n = chart.labels.len();
     let marks = marks.get_mut(..rule.nodes.len() * n).ok_or(refusal(17, 0))?;
     let scratch = scratch.get_mut(..4 * n).ok_or(refusal(18, 0))?;
-    // The numbers per state live in vectors here; the lent ones are only left as the document says.
+    // The numbers per state live in vectors here; the lent ones are only left as the paper says.
     scratch.fill(0);
     chart.refuse_instant_loop()?;
     Settler::new(&chart).settle(&rule, marks);

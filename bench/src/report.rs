@@ -6,19 +6,23 @@ use bench::{families, maps, rules};
 use std::hint::black_box;
 
 const GROWTH: [usize; 5] = [16, 32, 64, 128, 256];
-const GROWING: [&str; 3] = ["random", "chain", "chain-loop"];
+const GROWING: [&str; 4] = ["random", "chain", "chain-loop", "zigzag"];
 
 pub fn all(plan: &Plan) -> Result<(), String> {
     agreement()?;
-    println!("Times in microseconds per call; {} batches of each program, taken in turn in one run", plan.batches);
-    println!("after a warm-up. Marks and scratch are not cleared between calls; check clears its scratch itself.\n");
+    println!(
+        "\nTimes in microseconds per call; {} batches of each program, a third of that for slow inputs,",
+        plan.batches
+    );
+    println!("taken in turn in one run after a warm-up. Marks and scratch are not cleared between calls; check clears");
+    println!("its scratch itself.\n");
     by_family(plan)?;
     growth(plan)?;
     map_checks(plan)
 }
 
-/// Compares library and peer on every input before anything is timed.
-fn agreement() -> Result<(), String> {
+/// Compares library and peer on every input of check.
+pub fn agreement() -> Result<(), String> {
     let mut count = 0;
     let large = families::NAMES.iter().flat_map(|family| rules::NAMES.map(|rule| (*family, rule, 256)));
     let growing = GROWING.iter().flat_map(|family| GROWTH.map(|n| (*family, "mixed", n)));
@@ -27,7 +31,7 @@ fn agreement() -> Result<(), String> {
         input.agree().map_err(|why| format!("{family} with {n} states, {rule}: {why}"))?;
         count += 1;
     }
-    println!("Library and peer give equal outcomes, marks and scratch on all {count} inputs.\n");
+    println!("Library and peer give equal outcomes, marks and scratch on all {count} inputs.");
     Ok(())
 }
 

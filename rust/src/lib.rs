@@ -1,7 +1,7 @@
 //! Safe calls into the proved checker of timed rules over dispatch charts.
 //!
-//! The library takes any bytes and tests them itself, so nothing is tested here: each function hands its slices over and
-//! gives the answer back. What is promised of each call stands in `docs/PROMISES.md`.
+//! The library takes any bytes and tests them itself, so nothing is tested here: each function hands its slices over
+//! and gives the answer back. What is promised of each call stands in `docs/PROMISES.md`.
 
 /// Number and place of a refusal; both 0 on success.
 #[repr(C)]
@@ -82,7 +82,7 @@ mod call {
 ///
 /// Scratch wants 4n numbers; its first 4n are 0 after acceptance and after refusal 19. All else is left as lent.
 pub fn check(chart: &[u8], rule: &[u8], marks: &mut [u8], scratch: &mut [u32]) -> Outcome {
-    // SAFETY: each pointer comes with the length of its own slice, and two that are written to don't overlap any other.
+    // SAFETY: each pointer comes with the length of its own slice, and the two that are written to overlap no other.
     unsafe {
         call::doilystrand_check(
             chart.as_ptr(),
@@ -125,7 +125,7 @@ pub fn map_check(detail: &[u8], overview: &[u8], map: &[u8]) -> Outcome {
     }
 }
 
-/// The part of the chosen table that holds row t, with n marks a row; an empty part if the row doesn't lie wholly in it.
+/// The part of the chosen table that holds row t, n marks a row; an empty part if the row doesn't lie wholly in it.
 pub fn row<'a>(overview: &'a [u8], detail: &'a [u8], choice: Choice, n: usize, t: usize) -> &'a [u8] {
     // SAFETY: only numbers cross.
     let place = unsafe { call::doilystrand_row(overview.len(), detail.len(), choice == Choice::Detail, n, t) };
@@ -133,5 +133,6 @@ pub fn row<'a>(overview: &'a [u8], detail: &'a [u8], choice: Choice, n: usize, t
         Choice::Overview => overview,
         Choice::Detail => detail,
     };
-    &table[place.start..][..place.size]
+    // SAFETY: by row's proved promise, start + size is at most the length of the chosen table.
+    unsafe { table.get_unchecked(place.start..place.start + place.size) }
 }

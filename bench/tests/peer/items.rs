@@ -1,4 +1,4 @@
-//! The thirteen items of the document, and its listing.
+//! The thirteen items of the paper, and its listing.
 
 use crate::common::{arrow, marks, node};
 use bench::bytes::{Arrow, Node, NO_END};
@@ -13,7 +13,7 @@ fn undo() -> Vec<Arrow> {
     arrows
 }
 
-/// The last row, as the document writes it.
+/// The last row, as the paper writes it.
 fn last(labels: &[u16], arrows: &[Arrow], nodes: &[Node]) -> String {
     let n = labels.len();
     let all = marks(labels, arrows, nodes);

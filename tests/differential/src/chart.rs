@@ -82,7 +82,7 @@ impl Slots {
     }
 }
 
-/// Mostly a handful of states; the limits of the document now and then.
+/// Mostly a handful of states; the limits of the paper now and then.
 fn size(rng: &mut Rng) -> (usize, usize) {
     if rng.below(1_500) == 0 {
         let n = rng.pick(&[200, 255, 256]);

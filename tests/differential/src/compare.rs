@@ -111,7 +111,7 @@ pub struct Both {
     pub oracle: Answer,
 }
 
-/// A call that stops the program is an answer too, and a wrong one.
+/// A panic is an answer too, and a wrong one. A crash or a call without end is not caught: `last` tells its case.
 fn guarded(run: fn(&Case) -> Answer, case: &Case) -> Answer {
     catch_unwind(AssertUnwindSafe(|| run(case))).unwrap_or(Answer::Stopped)
 }

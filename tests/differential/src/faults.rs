@@ -31,7 +31,7 @@ fn wrong_slot(rng: &mut Rng, chart: &mut Chart) {
     }
 }
 
-/// All arrows of one state start elsewhere, or it has the only new state after it.
+/// All arrows of one state start elsewhere, or a new last state has none.
 fn state_without_arrow(rng: &mut Rng, chart: &mut Chart) {
     let n = chart.states();
     if n < 2 || rng.percent(30) {

@@ -42,7 +42,7 @@ fn great_check(rng: &mut Rng) -> Case {
     Case::Check { chart: chart.bytes(), rule: rule::bytes(&rule), marks, scratch }
 }
 
-/// One to three faults, in the chart, in the rule or in both, so that the order of rows counts.
+/// One to six faults, in the chart, in the rule or in both, so that the order of rows counts.
 fn damaged_check(rng: &mut Rng) -> Case {
     let mut chart = chart::random(rng, false);
     let mut rule = trees::random(rng, &chart);

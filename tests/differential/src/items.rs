@@ -1,4 +1,4 @@
-//! The thirteen items and the listing of the document, kinds of rules and rows of tables.
+//! The thirteen items and the listing of the paper, kinds of rules and rows of tables.
 
 use crate::case::{Case, Table};
 use crate::chart::{arrow, Chart, NO_END};

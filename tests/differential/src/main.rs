@@ -1,9 +1,11 @@
 //! Runs the proved checker and the oracle on the same cases and compares every answer.
 //!
-//! Without options: the named cases of the document, then 400,000 random ones with a fixed seed.
-//! `--long [COUNT]` runs more (5,000,000), `--seed S` others, `--case I` one by its number,
-//! `--replay CASE` the one whose line a difference printed. The status is 1 if anything differs
-//! or a number of the refusal table was never met, 2 if the options are wrong.
+//! Without options: the named cases of the paper, large charts, then 400,000 random cases with a fixed seed.
+//! `--long [COUNT]` runs more (5,000,000), `--seed S` others, `--case I` one by its number, `--named I` one of the
+//! named and large ones by its number, `--replay CASE` the one whose line a difference printed. The status is 1 if
+//! anything differs or a number of the refusal table was never met, 2 if the options are wrong.
+//!
+//! The file that the variable DIFFERENTIAL_LAST names, if it is set, holds the options of the case under way.
 
 mod case;
 mod chart;
@@ -12,11 +14,14 @@ mod damage;
 mod faults;
 mod generate;
 mod items;
+mod large;
+mod last;
 mod maps;
 mod named;
 mod options;
 mod promises;
 mod replay;
+mod report;
 mod rng;
 mod rows;
 mod rule;
@@ -29,21 +34,26 @@ mod trees;
 
 use std::process::ExitCode;
 
+use last::Last;
 use options::Task;
 
 fn main() -> ExitCode {
     let arguments: Vec<String> =
         std::env::args_os().skip(1).map(|argument| argument.to_string_lossy().into_owned()).collect();
-    match options::read(&arguments) {
-        Ok(Task::Run { seed, count }) => status(run::all(seed, count)),
-        Ok(Task::One(case)) => status(run::one(&case)),
+    match options::read(&arguments).and_then(perform) {
+        Ok(good) => ExitCode::from(if good { 0 } else { 1 }),
         Err(message) => {
-            run::say(&format!("differential: {message}\n{}", options::USAGE));
+            report::say(&format!("differential: {message}\n{}", options::USAGE));
             ExitCode::from(2)
         }
     }
 }
 
-fn status(good: bool) -> ExitCode {
-    ExitCode::from(if good { 0 } else { 1 })
+fn perform(task: Task) -> Result<bool, String> {
+    let last = Last::open()?;
+    match task {
+        Task::Run { seed, count } => Ok(run::all(last, seed, count)),
+        Task::One(which) => run::one(last, which),
+        Task::Replay(case) => Ok(run::alone(&case)),
+    }
 }

@@ -1,4 +1,4 @@
-//! Named cases with the answer that the document gives: both programs are held to it.
+//! Named cases with the answer that the paper gives: both programs are held to it.
 
 use crate::case::{Case, Lent, Table};
 use crate::chart::{arrow, framed, Chart, NO_END};

@@ -1,4 +1,4 @@
-//! What the document says of every answer, whatever the case: both programs are held to it.
+//! What the paper says of every answer, whatever the case: both programs are held to it.
 
 use crate::case::Case;
 use crate::compare::{Answer, Kind};

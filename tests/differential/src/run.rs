@@ -1,15 +1,16 @@
-//! The run: named cases first, then random ones; a difference prints a line to replay.
+//! The run: named cases first, then random ones; or one case alone.
 
-use std::io::Write;
 use std::time::Instant;
 
 use crate::case::Case;
-use crate::compare::{both, Answer, Both};
+use crate::compare::{both, Both};
 use crate::generate;
 use crate::items;
+use crate::large;
+use crate::last::{Last, Which};
 use crate::named::Named;
 use crate::promises;
-use crate::replay;
+use crate::report::{self, say};
 use crate::summary::Summary;
 use crate::table;
 use crate::table_maps;
@@ -17,17 +18,14 @@ use crate::table_rules;
 
 const SHOWN: u64 = 5;
 
-/// Prints without stopping if nobody reads.
-pub fn say(text: &str) {
-    let _ = writeln!(std::io::stdout().lock(), "{text}");
-}
-
+/// The large ones come last, since they take longest.
 fn named() -> Vec<Named> {
     let mut list = Vec::new();
     items::all(&mut list);
     table::all(&mut list);
     table_rules::all(&mut list);
     table_maps::all(&mut list);
+    large::all(&mut list);
     list
 }
 
@@ -40,40 +38,16 @@ fn difference(case: &Case, answers: &Both) -> Option<String> {
     sides.iter().find_map(|(name, answer)| promises::broken(case, answer).map(|what| format!("{name}: {what}")))
 }
 
-fn against_document(case: &Named, answers: &Both) -> Option<String> {
+fn against_paper(case: &Named, answers: &Both) -> Option<String> {
     let sides = [("the library", &answers.library), ("the oracle", &answers.oracle)];
     let wrong = sides.iter().find(|(_, answer)| !case.met(answer))?;
-    Some(format!("{} differs from the document, which says {:?}", wrong.0, case.expected))
-}
-
-fn brief(answer: &Answer) -> String {
-    match answer {
-        Answer::Check { number, place, marks, scratch } => {
-            let (m, s) = (digest(marks), digest(scratch));
-            format!("number {number}, place {place}, marks {m}, scratch {s}")
-        }
-        other => format!("{other:?}"),
-    }
-}
-
-/// Short buffers whole, long ones by their first numbers.
-fn digest<T: std::fmt::Debug>(buffer: &[T]) -> String {
-    if buffer.len() <= 24 {
-        return format!("{buffer:?}");
-    }
-    format!("{:?} and {} more", &buffer[..24], buffer.len() - 24)
-}
-
-fn report(name: &str, case: &Case, answers: &Both, what: &str) {
-    say(&format!("DIFFERENCE in {name}: {what}"));
-    say(&format!("  library: {}", brief(&answers.library)));
-    say(&format!("  oracle:  {}", brief(&answers.oracle)));
-    say(&format!("  differential --replay '{}'", replay::text(case)));
+    Some(format!("{} differs from the paper, which says {:?}", wrong.0, case.expected))
 }
 
 struct Run {
     summary: Summary,
     differ: u64,
+    last: Last,
 }
 
 impl Run {
@@ -84,19 +58,20 @@ impl Run {
     fn note(&mut self, name: &str, case: &Case, answers: &Both, what: Option<String>) {
         if let Some(what) = what {
             self.differ += 1;
-            report(name, case, answers, &what);
+            report::difference(name, case, answers, &what);
         }
     }
 
     fn named_cases(&mut self) {
-        for test in named() {
+        for (number, test) in (0..).zip(&named()) {
             if self.full() {
                 return;
             }
+            self.last.keep(Which::Named(number));
             let answers = both(&test.case);
-            let what = difference(&test.case, &answers).or_else(|| against_document(&test, &answers));
+            let what = difference(&test.case, &answers).or_else(|| against_paper(test, &answers));
             self.summary.add(&test.case, &answers.oracle, false);
-            self.note(&test.name, &test.case, &answers, what);
+            self.note(&format!("named case {number}, {}", test.name), &test.case, &answers, what);
         }
     }
 
@@ -106,6 +81,7 @@ impl Run {
                 return;
             }
             let case = generate::random(seed, number);
+            self.last.keep(Which::Random { seed, number });
             let answers = both(&case);
             let what = difference(&case, &answers);
             self.summary.add(&case, &answers.oracle, true);
@@ -115,9 +91,9 @@ impl Run {
 }
 
 /// Runs all cases; true if none differs and every number was met.
-pub fn all(seed: u64, count: u64) -> bool {
+pub fn all(last: Last, seed: u64, count: u64) -> bool {
     let began = Instant::now();
-    let mut run = Run { summary: Summary::new(), differ: 0 };
+    let mut run = Run { summary: Summary::new(), differ: 0, last };
     run.named_cases();
     run.random_cases(seed, count);
     if run.full() {
@@ -133,15 +109,26 @@ pub fn all(seed: u64, count: u64) -> bool {
     run.differ == 0 && missing.is_empty()
 }
 
-/// Runs one case and prints both answers in full.
-pub fn one(case: &Case) -> bool {
+/// Runs the case of that number alone.
+pub fn one(mut last: Last, which: Which) -> Result<bool, String> {
+    let case = match which {
+        Which::Random { seed, number } => generate::random(seed, number),
+        Which::Named(number) => {
+            let (list, at) = (named(), usize::try_from(number).unwrap_or(usize::MAX));
+            let test = list.get(at).ok_or(format!("--named {number}: the last is {}", list.len() - 1))?;
+            say(&test.name);
+            test.case.clone()
+        }
+    };
+    last.keep(which);
+    Ok(alone(&case))
+}
+
+/// Runs one case and prints both answers in full. If it is among the named ones, it is held to their answers too.
+pub fn alone(case: &Case) -> bool {
     let answers = both(case);
-    say(&replay::text(case));
-    say(&format!("library: {:?}", answers.library));
-    say(&format!("oracle:  {:?}", answers.oracle));
-    match difference(case, &answers) {
-        Some(what) => say(&format!("differential: 1 case, 1 differs: {what}")),
-        None => say("differential: 1 case, 0 differ"),
-    }
-    difference(case, &answers).is_none()
+    let as_named = || named().iter().filter(|test| test.case == *case).find_map(|test| against_paper(test, &answers));
+    let what = difference(case, &answers).or_else(as_named);
+    report::whole(case, &answers, what.as_deref());
+    what.is_none()
 }

@@ -92,7 +92,7 @@ fn chart_arrows(list: &mut List) {
     bare.arrows.push(arrow(1, 0, 1, 1));
     chart_row(list, "row 9 passed: an arrow 1 to 0 too", bare.bytes(), 0, 0);
     bare.arrows.remove(0);
-    chart_row(list, "row 9: state 0", bare.bytes(), 9, 0);
+    chart_row(list, "row 9: n = 2, one arrow 1 to 0", bare.bytes(), 9, 0);
 }
 
 fn zero_loops(list: &mut List) {
@@ -154,7 +154,7 @@ fn lowest(list: &mut List) {
     let zero = with(&|a| (a.start, a.end, a.fewest) = (a.start, a.start, 0));
     let mut bare = zero.clone();
     bare.splice(15..17, [0, 1]);
-    chart_row(list, "row 9: state 0", bare, 9, 0);
+    chart_row(list, "row 9: state 0, beside loops of fewest 0", bare, 9, 0);
     chart_row(list, "row 19: states 1 and 2", zero, 19, 1);
 }
 

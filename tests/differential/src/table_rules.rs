@@ -40,7 +40,7 @@ fn nots(k: usize) -> Vec<Node> {
     nodes
 }
 
-/// A rule whose last node, 2, has `last` as its form over two true nodes or fewer.
+/// A rule that ends with `last` over as many true nodes as it has operands, and the number of that node.
 fn ended_by(last: Node) -> (Vec<Node>, u32) {
     let mut nodes = vec![plain(TRUE, 0, 0); last.operands()];
     nodes.push(last);
