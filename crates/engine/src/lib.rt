@@ -294,8 +294,12 @@ fn leap_everywhere(
     }
 }
 
-// Whether loops are looked for everywhere after so many sweeps. Seldom, for it takes n times as many arrows.
-fn due(done: usize) -> bool {
+// Whether loops are looked for everywhere after so many sweeps. Seldom, for it takes n times as many arrows; and never
+// after n sweeps, since every raise is a leap then.
+fn due(done: usize, n: usize) -> bool {
+    if n <= done {
+        return false;
+    }
     match done {
         4 | 8 | 16 | 32 | 64 | 128 => true,
         _ => false,
@@ -332,7 +336,7 @@ fn leaps(
         hints::follow(chart, n, m, hints, last),
         numbers,
     );
-    if !due(reach.most) {
+    if !due(reach.most, n) {
         return;
     }
     leap_everywhere(reach, chart, n, m, hints, go, numbers);
