@@ -17,7 +17,7 @@ use Rattle.outcome.proofs.Unmet.{unmet-append-iff}
 use Rattle.outcome.proofs.Lowest.{none-below, some-lowest}
 use Rattle.head.specs.Head.{headRows, Headed}
 use Rattle.head.proofs.Passed.{head-iff}
-use Rattle.chart.specs.Bytes.{stateCount, arrowCount, arrowWords, arrowOf, mostOf, chartOf}
+use Rattle.chart.specs.Bytes.{stateCount, arrowCount, arrowWords, arrowOf, isNoEnd, mostOf, chartOf}
 use Rattle.chart.specs.Shape.{Shape}
 use Rattle.chart.specs.Refusals.{chartTable, chartRefusal, leftBy, emptySlot}
 use Rattle.chart.specs.declared.ArrowWords.{ArrowWords}
@@ -50,7 +50,7 @@ well-formed s e =
 
 -- a slot that is not empty, read as the fewest and the most minutes
 slot-within : (w : ArrowWords) → emptySlot w ≡ false → Within (w .fewest) (mostOf (w .most))
-slot-within w e = turn (eqb (w .most) 65535)
+slot-within w e = turn (isNoEnd (w .most))
   where
     fits : w .fewest ≤ w .most
     fits = ltb-false (w .most) (w .fewest) (or-false (ltb (w .most) (w .fewest)) _ e .0)

@@ -10,7 +10,7 @@ use Rattle.chart.specs.Shape.{Shape, Inside}
 
 -- in the shape that checks 1 to 6 leave, each arrow lies in the bytes
 pub arrow-inside : {s : List ℕ} {n m i : ℕ} → Shape s n m → i < m → Inside s n i
-arrow-inside h l = record { states = h .states; whole = omega (arith, h .states, h .whole) }
+arrow-inside h l = record { states = h .states; whole = omega (arith, h .arrows, h .whole) }
 
 -- the four words at the arrow's place are the arrow's
 pub arrow-read :

@@ -2,10 +2,10 @@
 use mathlib.Core.Path.{_≡_, sym, ap, _∙_}
 use mathlib.Core.Bool.{true, false, not}
 use mathlib.Core.List.{List}
-use Prim.Native.Nat.{ℕ, _≤_, _<_}
+use Prim.Native.Nat.{ℕ, _<_}
 use native.Mathlib.Omega.{arith}
 use lib.Dec.{eqb}
-use borrow.Author.Tests.{le-ltb, lt-leb, eq-eqb, ne-eqb}
+use borrow.Author.Tests.{lt-leb, eq-eqb}
 use Rattle.tctl.specs.Chart.{Arrow}
 use Rattle.tctl.specs.Accepted.{Accepted}
 use Rattle.outcome.proofs.Place.{equal-none, inside-none}
@@ -25,9 +25,6 @@ use Rattle.chart.proofs.Chart.{states-of, arrow-mem, arrow-of}
 
 names-states : (n : ℕ) (w : ArrowWords) → (w .start < n) × (w .end < n) → namesNoState n w ≡ false
 names-states n w h = rw (lt-leb n (w .start) (h .0), lt-leb n (w .end) (h .1))
-
-not-empty : (w : ArrowWords) → (w .fewest ≤ w .most) × (w .fewest ≡ 65535 → ⊥) → emptySlot w ≡ false
-not-empty w h = rw (le-ltb (w .most) (w .fewest) (h .0), ne-eqb (w .fewest) 65535 (h .1))
 
 -- ── The table ──
 
@@ -62,9 +59,7 @@ module _ (s : List ℕ) (acc : Accepted (chartOf s)) where
   -- rows 7 and 9 from the meaning, the others from the format
   pub accepted-formed :
       Headed 9 s → Shape s (stateCount s) (arrowCount s) →
-      ((i : ℕ) → i < arrowCount s →
-      (arrowWords s i .fewest ≤ arrowWords s i .most) × (arrowWords s i .fewest ≡ 65535 → ⊥)) →
-      WellFormed s
+      ((i : ℕ) → i < arrowCount s → emptySlot (arrowWords s i) ≡ false) → WellFormed s
   accepted-formed head shape slots =
       record {
         head = head;
@@ -72,6 +67,6 @@ module _ (s : List ℕ) (acc : Accepted (chartOf s)) where
         ends = λ i l.
             let m = arrow-mem s i l in
             (omega (arith, acc .starts _ m, states-of s), omega (arith, acc .ends _ m, states-of s));
-        slots = λ i l. not-empty (arrowWords s i) (slots i l);
+        slots = slots;
         left = left;
       }

@@ -3,7 +3,7 @@ use mathlib.Core.Path.{_≡_, subst₂}
 use mathlib.Core.Bool.{not}
 use mathlib.Core.List.{List, [], _∷_}
 use mathlib.Core.Option.{none}
-use Prim.Native.Nat.{ℕ, _+_, _*_, _<_}
+use Prim.Native.Nat.{ℕ, _<_}
 use native.Mathlib.Omega.{arith}
 use lib.ListN.{length, drop}
 use lib.Dec.{leb, eqb}
@@ -14,7 +14,7 @@ use Rattle.outcome.specs.Refusal.{whole, outside, lowest, first, rows}
 use Rattle.outcome.proofs.Place.{whole-none, none-equal, inside}
 use Rattle.outcome.proofs.First.{unmet-at}
 use Rattle.outcome.proofs.Lowest.{none-below}
-use Rattle.chart.specs.Bytes.{stateCount, arrowCount, arrowWords}
+use Rattle.chart.specs.Bytes.{stateCount, arrowCount, chartLength, arrowWords}
 use Rattle.chart.specs.Shape.{Shape}
 use Rattle.chart.specs.Refusals.{chartTable, namesNoState}
 use Rattle.chart.specs.Parts.{arrowRow, bodyRows}
@@ -25,12 +25,12 @@ module _ (s : List ℕ) where
     pub shape :
         whole (outside 1 256 (stateCount s)) ≡ none →
         whole (outside 1 2048 (arrowCount s)) ≡ none →
-        whole (not (eqb (length s) (9 + 2 * stateCount s + 8 * arrowCount s))) ≡ none →
+        whole (not (eqb (length s) (chartLength s))) ≡ none →
         Shape s n m
     shape a b d =
         let x = inside 1 256 (stateCount s) (whole-none (outside 1 256 (stateCount s)) a) in
         let y = inside 1 2048 (arrowCount s) (whole-none (outside 1 2048 (arrowCount s)) b) in
-        let z = none-equal (length s) (9 + 2 * stateCount s + 8 * arrowCount s) d in
+        let z = none-equal (length s) (chartLength s) d in
         record {
           states = en;
           arrows = em;
@@ -38,7 +38,7 @@ module _ (s : List ℕ) where
           few-states = omega (arith, x .1);
           some-arrows = omega (arith, y .0);
           few-arrows = omega (arith, y .1);
-          whole = omega arith;
+          whole = z;
         }
 
     pub size-passed : first (rows 3 3 (chartTable s)) .number ≡ 0 → Shape s n m

@@ -1,5 +1,5 @@
 -- A chart's bytes. The quoted sentences are of 01, "Bytes of a chart, a rule and a map".
-use mathlib.Core.Bool.{cond}
+use mathlib.Core.Bool.{Bool, cond}
 use mathlib.Core.List.{List}
 use Prim.Native.Nat.{ℕ, _+_, _*_}
 use lib.Dec.{eqb}
@@ -24,6 +24,10 @@ labelWord s v = word s (9 + 2 * v)
 abbrev pub arrowPlace : List ℕ → ℕ → ℕ
 arrowPlace s i = 9 + 2 * stateCount s + 8 * i
 
+-- "Length 9 + 2n + 8m": where an arrow after the last would begin
+abbrev pub chartLength : List ℕ → ℕ
+chartLength s = arrowPlace s (arrowCount s)
+
 -- "start, end, fewest, most"
 unfoldable pub arrowWords : List ℕ → ℕ → ArrowWords
 arrowWords s i =
@@ -31,8 +35,11 @@ arrowWords s i =
     record { start = word s at; end = word s (at + 2); fewest = word s (at + 4); most = word s (at + 6) }
 
 -- "Most = 65,535 is 'no end'"
+abbrev pub isNoEnd : ℕ → Bool
+isNoEnd w = eqb w 65535
+
 abbrev pub mostOf : ℕ → Most
-mostOf w = cond (eqb w 65535) noEnd (upTo w)
+mostOf w = cond (isNoEnd w) noEnd (upTo w)
 
 abbrev pub arrowOf : ArrowWords → Arrow
 arrowOf w = record { start = w .start; end = w .end; fewest = w .fewest; most = mostOf (w .most) }

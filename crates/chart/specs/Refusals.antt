@@ -1,13 +1,13 @@
 -- Refusals 1 to 9: the rows of 01's table, in its order and its words.
 use mathlib.Core.Bool.{Bool, not, _||_}
 use mathlib.Core.List.{List, [], _∷_}
-use Prim.Native.Nat.{ℕ, _+_, _*_}
+use Prim.Native.Nat.{ℕ}
 use lib.ListN.{length}
 use lib.Dec.{eqb, ltb, leb}
 use Rattle.outcome.specs.declared.Outcome.{Outcome}
 use Rattle.outcome.specs.Refusal.{Row, refuse, whole, outside, lowest, found, first}
 use Rattle.head.specs.Head.{version, statedLength}
-use Rattle.chart.specs.Bytes.{stateCount, arrowCount, arrowWords}
+use Rattle.chart.specs.Bytes.{stateCount, arrowCount, chartLength, arrowWords}
 use Rattle.chart.specs.declared.ArrowWords.{ArrowWords}
 
 -- "names a state n or above"
@@ -37,7 +37,7 @@ chartTable s =
     -- m outside 1 to 2,048
     refuse 5 (whole (outside 1 2048 m)) ∷
     -- length not 9 + 2n + 8m
-    refuse 6 (whole (not (eqb (length s) (9 + 2 * n + 8 * m)))) ∷
+    refuse 6 (whole (not (eqb (length s) (chartLength s)))) ∷
     -- arrow names a state n or above
     refuse 7 (lowest (λ i. namesNoState n (arrowWords s i)) m) ∷
     -- fewest above most, or fewest 65,535

@@ -1,9 +1,10 @@
 -- What the functions that read a chart ask of its bytes, and what they promise of a word's size.
 use mathlib.Core.Path.{_≡_}
+use mathlib.Core.Bool.{false}
 use mathlib.Core.List.{List}
-use Prim.Native.Nat.{ℕ, _+_, _*_, _≤_, _<_}
+use Prim.Native.Nat.{ℕ, _+_, _≤_, _<_}
 use lib.ListN.{length}
-use Rattle.chart.specs.Bytes.{stateCount, arrowCount, arrowPlace}
+use Rattle.chart.specs.Bytes.{stateCount, arrowCount, arrowPlace, chartLength, isNoEnd}
 use Rattle.chart.specs.Refusals.{chartRefusal}
 use Rattle.chart.specs.declared.ArrowWords.{ArrowWords}
 
@@ -14,10 +15,23 @@ pub record Small (w : ArrowWords) : Type 0 where
   pub fewest : w .fewest < 65536
   pub most : w .most < 65536
 
+-- the longest that a slot's minutes are, "no end" aside
+abbrev pub longest : ℕ
+longest = 65534
+
+-- a word as a most: "no end", or not above the longest
+abbrev pub Ends : ℕ → Type 0
+Ends w = isNoEnd w ≡ false → w ≤ longest
+
+-- the slot of an arrow that passes check 8, for who adds up minutes
+pub record Slot (w : ArrowWords) : Type 0 where
+  pub fewest : w .fewest ≤ longest
+  pub most : Ends (w .most)
+
 -- n states, and arrow i lies in the bytes
 pub record Inside (s : List ℕ) (n i : ℕ) : Type 0 where
   pub states : n ≡ stateCount s
-  pub whole : arrowPlace s i + 8 ≤ length s
+  pub whole : arrowPlace s (i + 1) ≤ length s
 
 -- n states and m arrows, as checks 1 to 6 leave them
 pub record Shape (s : List ℕ) (n m : ℕ) : Type 0 where
@@ -27,7 +41,7 @@ pub record Shape (s : List ℕ) (n m : ℕ) : Type 0 where
   pub few-states : n ≤ 256
   pub some-arrows : 1 ≤ m
   pub few-arrows : m ≤ 2048
-  pub whole : length s ≡ 9 + 2 * n + 8 * m
+  pub whole : length s ≡ chartLength s
 
 -- a chart with n states and m arrows that passes checks 1 to 9
 pub record Passed (s : List ℕ) (n m : ℕ) : Type 0 where

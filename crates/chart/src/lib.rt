@@ -2,7 +2,7 @@
 ghost use mathlib.Core.Path.{_≡_};
 ghost use Prim.Native.Nat.{_+_, _*_, _≤_, _<_};
 ghost use lib.ListN.{length};
-ghost use Rattle.chart.specs.Bytes.{stateCount, arrowCount, labelWord, arrowWords};
+ghost use Rattle.chart.specs.Bytes.{stateCount, arrowCount, labelWord, isNoEnd, arrowWords};
 ghost use Rattle.chart.specs.Shape.{Small, Inside};
 
 pub mod refusals;
@@ -34,6 +34,13 @@ pub fn label_word(chart: &[u8], s: usize) -> u32
     ensures { λ r. ⌜ (r ≡ labelWord (now (chart .entry)) s) × (r < 65536) ⌝ }
 {
     words::be16(chart, 9 + 2 * s)
+}
+
+// The word most says "no end".
+pub fn no_end(most: u32) -> bool
+    ensures { λ r. ⌜ r ≡ isNoEnd most ⌝ }
+{
+    most == 65535
 }
 
 // Arrow i of a chart with n states.

@@ -8,9 +8,8 @@ use native.Mathlib.Nat.{mul-le-mul-left, mul-le-mul-right}
 use lib.ListN.{getD, List·getD-append}
 use borrow.Author.Tests.{eq-eqb, ne-eqb}
 use Rattle.outcome.specs.declared.Outcome.{Outcome}
-use Rattle.chart.specs.Bytes.{stateCount, arrowCount}
-use Rattle.chart.specs.Shape as chart-shape
-use Rattle.chart.proofs.Accepted.{well-formed}
+use Rattle.chart.specs.Bytes.{stateCount}
+use Rattle.chart.proofs.Accepted.{WellFormed, well-formed}
 use Rattle.rule.specs.Bytes.{nodeCount}
 use Rattle.rule.specs.Shape as rule-shape
 use Rattle.rule.proofs.Accepted.{accepted}
@@ -34,8 +33,8 @@ module _
 
     module _ (z : r .number ≡ 0) where
       -- the chart and the rule have the shape that was asked for
-      pub chart-shaped : chart-shape.Shape chart (stateCount chart) (arrowCount chart)
-      chart-shaped = well-formed chart (cleared-admitted told (inl z) .of-chart) .shape
+      pub chart-formed : WellFormed chart
+      chart-formed = well-formed chart (cleared-admitted told (inl z) .of-chart)
 
       pub rule-shaped : rule-shape.Shape rule (nodeCount rule)
       rule-shaped = accepted rule (cleared-admitted told (inl z) .of-rule) .shape
@@ -46,7 +45,7 @@ module _
           omega (
             arith,
             mul-le-mul-right (stateCount chart) (rule-shaped .few-nodes),
-            mul-le-mul-left 64 (chart-shaped .few-states),
+            mul-le-mul-left 64 (chart-formed .shape .few-states),
           )
 
       marks-first :

@@ -1,4 +1,3 @@
-pub mod Words
 pub mod Format
 pub mod Tested
 pub mod Covering

@@ -1,7 +1,7 @@
 -- A map's bytes. The quoted sentences are of 01, "Bytes of a chart, a rule and a map".
 use mathlib.Core.Path.{_≡_}
 use mathlib.Core.List.{List}
-use Prim.Native.Nat.{ℕ, _+_, _*_, _≤_}
+use Prim.Native.Nat.{ℕ, _+_, _*_}
 use lib.ListN.{length}
 use Rattle.words.specs.Word.{word}
 use Rattle.head.specs.Head.{Headed}

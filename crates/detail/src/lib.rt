@@ -1,7 +1,7 @@
 // Map check: whether a detail chart is one under an overview chart, by a map.
 ghost use mathlib.Core.Path.{_≡_};
 ghost use mathlib.Core.List.{[], _∷_};
-ghost use Prim.Native.Nat.{ℕ, _+_, _*_, _≤_, _<_};
+ghost use Prim.Native.Nat.{_+_, _*_, _≤_, _<_};
 ghost use lib.ListN.{length};
 ghost use Rattle.outcome.specs.Refusal.{first};
 ghost use Rattle.chart.specs.Bytes.{arrowOf, mostOf};
@@ -82,18 +82,19 @@ fn label_refusal(
 
 // The word by, as a most, contains the word most: "no end" contains every most, and no other contains it.
 fn contains_most(by: u32, most: u32) -> bool
-    requires { ⌜ by < 65536 ⌝ }
     ensures { λ r. ⌜ r ≡ contains (mostOf by) (mostOf most) ⌝ }
 {
-    if by == 65535 {
+    if chart::no_end(by) {
         return true;
+    }
+    if chart::no_end(most) {
+        return false;
     }
     most <= by
 }
 
 // The overview arrow b covers the detail arrow a, whose ends stand for the states from and to.
 fn covers_arrow(from: usize, to: usize, a: ArrowWords, b: ArrowWords) -> bool
-    requires { ⌜ b .most < 65536 ⌝ }
     ensures { λ r. ⌜ r ≡ covers from to (arrowOf a) (arrowOf b) ⌝ }
 {
     if b.start != from {

@@ -4,11 +4,9 @@ use mathlib.Core.Logic.{_↔_, Iff·symm, Iff·trans}
 use mathlib.Core.Bool.{false≢true}
 use mathlib.Core.List.{List, [], _∷_}
 use mathlib.Core.Option.{none}
-use Prim.Native.Nat.{ℕ, _≤_, _<_}
+use Prim.Native.Nat.{ℕ, _<_}
 use native.Mathlib.Omega.{arith}
-use lib.Dec.{ltb}
-use borrow.Author.Tests.{ltb-false, eqb-false}
-use Rattle.truth.proofs.Truth.{or-false, no-test}
+use Rattle.truth.proofs.Truth.{no-test}
 use Rattle.tctl.specs.Run.{Run}
 use Rattle.tctl.specs.Accepted.{Accepted, OnZeroLoop}
 use Rattle.tctl.proofs.Run.{Passes}
@@ -21,7 +19,7 @@ use Rattle.outcome.specs.Met.{Unmet, end}
 use Rattle.outcome.proofs.First.{Numbered, zero-iff, success-iff}
 use Rattle.outcome.proofs.Unmet.{unmet-more, unmet-row, unmet-append-iff}
 use Rattle.outcome.proofs.Lowest.{none-below, below-none}
-use Rattle.chart.specs.Bytes.{stateCount, arrowCount, arrowWords, chartOf}
+use Rattle.chart.specs.Bytes.{stateCount, arrowCount, chartOf}
 use Rattle.chart.specs.Shape.{Shape, Passed}
 use Rattle.chart.specs.Refusals.{chartTable, chartRefusal}
 use Rattle.chart.proofs.Accepted.{WellFormed, well-formed, chart-accepted}
@@ -76,14 +74,6 @@ module _ (s : List ℕ) where
     pub accepted-passes : (v : ℕ) → v < stateCount s → (r : Run (chartOf s) v) → Passes r
     accepted-passes v l r = passes accepted-only v (omega (arith, states-of s)) r
 
-    slots :
-        (i : ℕ) → i < arrowCount s →
-        (arrowWords s i .fewest ≤ arrowWords s i .most) × (arrowWords s i .fewest ≡ 65535 → ⊥)
-    slots i l =
-        let w = arrowWords s i in
-        let e = or-false (ltb (w .most) (w .fewest)) _ (ok .slots i l) in
-        (ltb-false (w .most) (w .fewest) (e .0), eqb-false (w .fewest) 65535 (e .1))
-
     format : ChartFormat s
     format =
         let k = ok .shape in
@@ -94,7 +84,7 @@ module _ (s : List ℕ) where
           some-arrows = k .some-arrows;
           few-arrows = k .few-arrows;
           whole = k .whole;
-          slots = slots;
+          slots = ok .slots;
         }
 
   -- ── Back to the table ──

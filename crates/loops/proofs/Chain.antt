@@ -23,7 +23,7 @@ module _ (s : List ℕ) {r : Outcome} (e : r ≡ chartRefusal s) where
 
   module _ (z : r .number ≡ 0) where
     pub chart-whole : 9 ≤ length s
-    chart-whole = omega (arith, well-formed s (part-zero (chartTable s) e z) .shape .whole)
+    chart-whole = well-formed s (part-zero (chartTable s) e z) .head .enough
 
     pub chart-small : stateCount s ≤ 256
     chart-small = well-formed s (part-zero (chartTable s) e z) .shape .few-states

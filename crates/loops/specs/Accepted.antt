@@ -1,11 +1,13 @@
 -- An accepted chart, its bytes and its meaning. The quoted sentences are of 01, "Bytes of a chart, a rule and a map".
 use mathlib.Core.Path.{_≡_}
+use mathlib.Core.Bool.{false}
 use mathlib.Core.List.{List}
-use Prim.Native.Nat.{ℕ, _+_, _*_, _≤_, _<_}
+use Prim.Native.Nat.{ℕ, _≤_, _<_}
 use lib.ListN.{length}
 use Rattle.tctl.specs.Accepted.{Accepted}
 use Rattle.head.specs.Head.{Headed}
-use Rattle.chart.specs.Bytes.{stateCount, arrowCount, arrowWords, chartOf}
+use Rattle.chart.specs.Bytes.{stateCount, arrowCount, chartLength, arrowWords, chartOf}
+use Rattle.chart.specs.Refusals.{emptySlot}
 
 -- what is asked of the bytes alone: rows 1 to 6, and row 8 of the words
 pub record ChartFormat (s : List ℕ) : Type 0 where
@@ -18,11 +20,9 @@ pub record ChartFormat (s : List ℕ) : Type 0 where
   pub some-arrows : 1 ≤ arrowCount s
   pub few-arrows : arrowCount s ≤ 2048
   -- "Length 9 + 2n + 8m."
-  pub whole : length s ≡ 9 + 2 * stateCount s + 8 * arrowCount s
+  pub whole : length s ≡ chartLength s
   -- not "fewest above most, or fewest 65,535"
-  pub slots :
-      (i : ℕ) → i < arrowCount s →
-      (arrowWords s i .fewest ≤ arrowWords s i .most) × (arrowWords s i .fewest ≡ 65535 → ⊥)
+  pub slots : (i : ℕ) → i < arrowCount s → emptySlot (arrowWords s i) ≡ false
 
 -- the bytes have the format of a chart, and the chart they stand for is accepted
 pub record AcceptedChart (s : List ℕ) : Type 0 where

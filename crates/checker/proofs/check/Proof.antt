@@ -42,10 +42,10 @@ passed c =
     (c .before .before .input-refusal .ensures) (c .if1 .left)
 
 state-count-requires : tie.Need-state-count-requires
-state-count-requires c κs = omega (arith, well-formed _ (passed c .of-chart) .shape .whole)
+state-count-requires c κs = well-formed _ (passed c .of-chart) .head .enough
 
 arrow-count-requires : tie.Need-arrow-count-requires
-arrow-count-requires c κs = omega (arith, well-formed _ (passed (c .before) .of-chart) .shape .whole)
+arrow-count-requires c κs = well-formed _ (passed (c .before) .of-chart) .head .enough
 
 node-count-requires : tie.Need-node-count-requires
 node-count-requires c κs = omega (arith, accepted _ (passed (c .before .before) .of-rule) .shape .whole)

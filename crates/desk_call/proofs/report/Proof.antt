@@ -2,7 +2,7 @@
 use native.Mathlib.Omega.{arith}
 use borrow.Author.Needs.{needs}
 use Rattle.listing.proofs.Append.{shown-text}
-use Rattle.desk_call.proofs.Verdict.{refusal-printed, listing-printed, chart-shaped, rule-shaped, few-marks}
+use Rattle.desk_call.proofs.Verdict.{refusal-printed, listing-printed, chart-formed, rule-shaped, few-marks}
 use Rattle.desk_call.proofs.report.Statement.{statement}
 use Rattle.desk_call.proofs.report.Tie as tie
 
@@ -31,7 +31,7 @@ returns c =
 state-count-requires : tie.Need-state-count-requires
 state-count-requires c κs =
     let check = c .before .before .before .before in
-    omega (arith, chart-shaped _ _ (check .check .ensures) (c .if1 .left) .whole)
+    chart-formed _ _ (check .check .ensures) (c .if1 .left) .head .enough
 
 node-count-requires : tie.Need-node-count-requires
 node-count-requires c κs =
@@ -51,7 +51,7 @@ list-requires c κs =
     let z = passed .if1 .left in
     let n = states .state-count .ensures .0 in
     let k = nodes .node-count .ensures .0 in (
-      omega (arith, chart-shaped _ _ told z .few-states, n),
+      omega (arith, chart-formed _ _ told z .shape .few-states, n),
       omega (arith, rule-shaped _ _ told z .few-nodes, k),
       rw (n, k) (omega (arith, few-marks _ _ told z, check .check .kept .1 .1 .0)),
       omega arith,

@@ -1,14 +1,27 @@
--- "No end" contains every most; another is compared as a word.
-use borrow.Author.Tests.{eq-eqb}
-use Rattle.detail.proofs.Words.{contains-word}
+-- "No end" contains every most, and no other contains it.
+use borrow.Author.Needs.{needs}
 use Rattle.detail.proofs.contains_most.Statement.{statement}
 use Rattle.detail.proofs.contains_most.Tie as tie
 
+no-end-requires : tie.Need-no-end-requires
+no-end-requires c κs = search needs
+
 returns : tie.Need-returns
-returns c = simp (eq-eqb (c .before .args .by) 65535 (c .if1 .taken))
+returns c = rw (← c .before .no-end .ensures, c .if1 .taken)
+
+no-end-requires-2 : tie.Need-no-end-requires-2
+no-end-requires-2 c κs = search needs
 
 returns-2 : tie.Need-returns-2
-returns-2 c = contains-word (c .before .args .by) (c .before .args .most) (c .before .pre) (c .if1 .left)
+returns-2 c =
+    let first = c .before .before in
+    rw (← first .before .no-end .ensures, first .if1 .left, ← c .before .no-end2 .ensures, c .if2 .taken)
+
+returns-3 : tie.Need-returns-3
+returns-3 c =
+    let first = c .before .before in
+    rw (← first .before .no-end .ensures, first .if1 .left, ← c .before .no-end2 .ensures, c .if2 .left)
 
 pub contains-most-spec : {M : Type 1} → statement M
-contains-most-spec = tie.close (tie.spec returns returns-2)
+contains-most-spec =
+    tie.close (tie.spec no-end-requires returns no-end-requires-2 returns-2 returns-3)

@@ -6,7 +6,7 @@ use native.Mathlib.Omega.{arith}
 use borrow.Author.Count.{below-none, below-more}
 use denote.Ref.{now}
 use Rattle.outcome.proofs.Search.{search-found, search-ended}
-use Rattle.chart.proofs.Reading.{shaped}
+use Rattle.chart.proofs.Reading.{shaped, labels-inside}
 use Rattle.detail.proofs.Tested.{differ, labels-told}
 use Rattle.detail.proofs.label_refusal.Statement.{statement}
 use Rattle.detail.proofs.label_refusal.Tie as tie
@@ -37,7 +37,7 @@ loop-holds : tie.Need-loop-holds Inv-loop μ-loop
 loop-holds c = (omega arith, below-none _)
 
 label-word-requires : tie.Need-label-word-requires Inv-loop μ-loop
-label-word-requires c κs = omega (arith, shaped (c .before .before .before .before .before .pre .0) .whole)
+label-word-requires c κs = omega (arith, labels-inside (c .before .before .before .before .before .pre .0))
 
 entry-at-requires : tie.Need-entry-at-requires Inv-loop μ-loop
 entry-at-requires c κs = omega (arith, c .before .before .before .before .before .before .pre .2 .whole)
@@ -46,7 +46,7 @@ label-word-requires-2 : tie.Need-label-word-requires-2 Inv-loop μ-loop
 label-word-requires-2 c κs =
     let start = c .before .before .before .before .before .before .before in
     let inside = start .pre .2 .inside (c .before .before .before .loop .d) (c .before .before .loop-test .taken) in
-    omega (arith, shaped (start .pre .1) .whole, inside, c .entry-at .ensures .0)
+    omega (arith, labels-inside (start .pre .1), inside, c .entry-at .ensures .0)
 
 cast-refused : tie.Need-cast-refused Inv-loop μ-loop
 cast-refused c =

@@ -4,7 +4,7 @@ use native.Mathlib.Omega.{arith}
 use lib.ListN.{length}
 use borrow.Author.Needs.{needs}
 use denote.Ref.{now}
-use Rattle.chart.proofs.Reading.{shaped}
+use Rattle.chart.proofs.Reading.{labels-inside}
 use Rattle.rule.proofs.Accepted.{accepted}
 use Rattle.rule.proofs.Read.{Node, label-low, a-lower, b-lower}
 use Rattle.nodes.specs.Parts.{Lower}
@@ -89,7 +89,7 @@ fill-label-requires c κs =
     let test = c .before in
     let read = read2 (test .before) in
     let l = start read .pre .0 .0 in
-    (omega (arith, shaped (l .passed) .whole), label-low (node read) (test .if2 .taken), l .table)
+    (labels-inside (l .passed), label-low (node read) (test .if2 .taken), l .table)
 
 same-length-2 : tie.Need-same-length-2
 same-length-2 c = search needs

@@ -1,12 +1,11 @@
 -- Each return is the row whose test led there, the tests before it having failed.
-use Prim.Native.Nat.{_+_, _*_}
 use native.Mathlib.Omega.{arith}
 use lib.ListN.{length}
 use borrow.Author.Tests.{lt-ltb, le-ltb, eq-eqb, ne-eqb}
 use borrow.Author.Needs.{needs}
 use denote.Ref.{now}
 use Rattle.outcome.specs.Refusal.{first}
-use Rattle.chart.specs.Bytes.{stateCount, arrowCount}
+use Rattle.chart.specs.Bytes.{stateCount, arrowCount, chartLength}
 use Rattle.chart.specs.Refusals.{chartTable}
 use Rattle.chart.proofs.refusals.size_refusal.Statement.{statement}
 use Rattle.chart.proofs.refusals.size_refusal.Tie as tie
@@ -84,7 +83,7 @@ returns-5 c = let s = now (c .before .before .before .before .before .before .be
       le-ltb 256 (stateCount s) (omega arith),
       le-ltb (arrowCount s) 1 (omega arith),
       le-ltb 2048 (arrowCount s) (omega arith),
-      ne-eqb (length s) (9 + 2 * stateCount s + 8 * arrowCount s) (λ e. omega arith),
+      ne-eqb (length s) (chartLength s) (λ e. omega arith),
     ) (c .refused5 .ensures)
 
 accepted-requires : tie.Need-accepted-requires
@@ -98,7 +97,7 @@ returns-6 c = let s = now (c .before .before .before .before .before .before .be
       le-ltb 256 (stateCount s) (omega arith),
       le-ltb (arrowCount s) 1 (omega arith),
       le-ltb 2048 (arrowCount s) (omega arith),
-      eq-eqb (length s) (9 + 2 * stateCount s + 8 * arrowCount s) (omega arith),
+      eq-eqb (length s) (chartLength s) (omega arith),
     ) (c .accepted .ensures)
 
 pub size-refusal-spec : {M : Type 1} → statement M
