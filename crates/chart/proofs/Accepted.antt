@@ -9,7 +9,6 @@ use lib.Dec.{ltb, eqb}
 use borrow.Author.Tests.{ltb-false, eqb-true, not-false}
 use Rattle.truth.proofs.Truth.{or-false}
 use Rattle.tctl.specs.Chart.{Arrow, upTo, noEnd, Within, states}
-use Rattle.tctl.specs.Accepted.{Accepted, OnZeroLoop}
 use Rattle.outcome.specs.Refusal.{lowest}
 use Rattle.outcome.proofs.Place.{found-some}
 use Rattle.outcome.proofs.First.{unmet-at, zero-iff}
@@ -76,7 +75,7 @@ module _ (s : List ℕ) (ok : WellFormed s) where
       subst (λ b. Within (b .fewest) (b .most)) (sym (x .2))
       (slot-within (arrowWords s (x .0)) (ok .slots (x .0) (x .1)))
 
-  chart-left : (v : ℕ) → v < states (chartOf s) → (a : Arrow) × List·Memᴰ a (chartOf s .arrows) × (a .start ≡ v)
+  pub chart-left : (v : ℕ) → v < states (chartOf s) → (a : Arrow) × List·Memᴰ a (chartOf s .arrows) × (a .start ≡ v)
   unfolding leftBy
   chart-left v l =
       let p : ℕ → Bool = λ i. eqb (arrowWords s i .start) v in
@@ -84,14 +83,3 @@ module _ (s : List ℕ) (ok : WellFormed s) where
       let y = some-lowest p (arrowCount s) (x .0) (x .1) in
       let w = arrowWords s (x .0) in
       (arrowOf w, arrow-mem s (x .0) (y .inside), eqb-true (w .start) v (y .offends))
-
-  -- with check 19 passed too, the chart is accepted
-  pub chart-accepted : ((v : ℕ) → OnZeroLoop (chartOf s) v → ⊥) → Accepted (chartOf s)
-  chart-accepted timed =
-      record {
-        starts = λ a m. chart-named a m .0;
-        ends = λ a m. chart-named a m .1;
-        slots = chart-slots;
-        leaves = chart-left;
-        timed = timed;
-      }

@@ -8,14 +8,13 @@ use native.Mathlib.Omega.{arith}
 use lib.ListN.{length}
 use borrow.Author.Tests.{ltb-false, le-ltb}
 use Rattle.outcome.specs.declared.Outcome.{Outcome}
-use Rattle.outcome.specs.Refusal.{Row, refuse, whole, lowest, first}
+use Rattle.outcome.specs.Refusal.{Row, refuse, whole, first}
 use Rattle.outcome.proofs.Place.{whole-none}
 use Rattle.outcome.specs.Met.{Unmet, end}
 use Rattle.outcome.proofs.First.{Numbered, part-zero, part-refuses, part-passes, zero-iff}
 use Rattle.outcome.proofs.Unmet.{unmet-more, unmet-row, unmet-append-iff}
 use Rattle.outcome.proofs.Bounded.{number-le}
-use Rattle.model.specs.ZeroLoop.{onZeroLoop}
-use Rattle.chart.specs.Bytes.{stateCount, chartOf}
+use Rattle.chart.specs.Bytes.{stateCount}
 use Rattle.chart.specs.Refusals.{chartTable, chartRefusal}
 use Rattle.rule.specs.Bytes.{nodeCount}
 use Rattle.rule.specs.Refusals.{ruleTable, ruleRefusal}
@@ -130,11 +129,12 @@ module _ (chart rule marks scratch : List ℕ) where
       pub input-passes : Admitted chart rule marks scratch
       input-passes = admitted (zero-iff inputs input-numbered .0 (part-zero inputs e z))
 
--- row 19 answers 19 or nothing
+-- a row by itself answers its number, or 0
+alone : (n : ℕ) (p : Option ℕ) → (first (refuse n p ∷ []) .number ≡ 0) ⊎ (first (refuse n p ∷ []) .number ≡ n)
+unfolding first
+alone n none = inl refl
+alone n (some i) = inr refl
+
 pub loop-number : (chart : List ℕ) → (first (loopRow chart ∷ []) .number ≡ 0) ⊎ (first (loopRow chart ∷ []) .number ≡ 19)
-unfolding loopRow first
-loop-number chart = turn (lowest (onZeroLoop (chartOf chart)) (stateCount chart))
-  where
-    turn : (p : Option ℕ) → (first (refuse 19 p ∷ []) .number ≡ 0) ⊎ (first (refuse 19 p ∷ []) .number ≡ 19)
-    turn none = inl refl
-    turn (some i) = inr refl
+unfolding loopRow
+loop-number chart = alone 19 _

@@ -5,3 +5,4 @@ pub mod Arrows
 pub mod Tried
 pub mod Leapt
 pub mod Sweeps
+pub mod Numbers

@@ -14,10 +14,10 @@ use Rattle.tctl.proofs.Drawn.{Drawn}
 use Rattle.tctl.proofs.Path.{Path, stop, step, minutes}
 use Rattle.model.specs.Engine.{num, rounds, raise, greatest}
 use Rattle.model.specs.Marks.{flag}
-use Rattle.model.specs.Weighed.{weight, weighing, weighed, weighedChart}
+use Rattle.model.specs.Weighed.{weighing, weighed, weighedChart}
 use Rattle.model.proofs.RoundLaws.{round-map}
 use Rattle.model.proofs.Numbers.{tabulate-num}
-use Rattle.model.proofs.Weigh.{Weighed, weighed-drawn}
+use Rattle.model.proofs.Weighed.{weighed-drawn}
 use Rattle.model.proofs.Lower.{unlowered}
 use Rattle.model.proofs.Raise.{Offered, unraised-offered}
 use Rattle.model.proofs.Falling.{Falling, falling-start, falling-round}
@@ -130,16 +130,7 @@ module _ {chart : List ℕ} {n m : ℕ} (p : Passed chart n m) (go : List ℕ) w
     module _ (ticks : Bool) (cap : ℕ) where
       -- the chart whose arrows weigh so is drawn
       heavy : Drawn (weighedChart ticks (chartOf chart))
-      heavy =
-          weighed-drawn (chartOf chart) (λ a k. (drawn p .starts a k, drawn p .ends a k))
-          (map (weighing ticks) (chartOf chart .arrows)) from
-        where
-          from :
-              (b : Arrow) → List·Memᴰ b (map (weighing ticks) (chartOf chart .arrows)) →
-              Weighed (chartOf chart .arrows) b
-          from b k =
-              let w = Memᴰ·of-map (weighing ticks) (chartOf chart .arrows) k in
-              (w .0, w .1, weight ticks (w .0 .most), w .2)
+      heavy = weighed-drawn ticks (drawn p)
 
       pub rises-none : Rises chart ticks cap go old 0 old
       rises-none = rising-start heavy (flag go) cap (num old) old same-size (λ s l. refl)

@@ -9,6 +9,7 @@ use native.Mathlib.Omega.{arith}
 use Rattle.truth.proofs.Truth.{no-test}
 use Rattle.tctl.specs.Run.{Run}
 use Rattle.tctl.specs.Accepted.{Accepted, OnZeroLoop}
+use Rattle.tctl.proofs.Drawn.{Drawn}
 use Rattle.tctl.proofs.Run.{Passes}
 use Rattle.tctl.proofs.Passing.{passes}
 use Rattle.model.specs.ZeroLoop.{onZeroLoop}
@@ -22,7 +23,7 @@ use Rattle.outcome.proofs.Lowest.{none-below, below-none}
 use Rattle.chart.specs.Bytes.{stateCount, arrowCount, chartOf}
 use Rattle.chart.specs.Shape.{Shape, Passed}
 use Rattle.chart.specs.Refusals.{chartTable, chartRefusal}
-use Rattle.chart.proofs.Accepted.{WellFormed, well-formed, chart-accepted}
+use Rattle.chart.proofs.Accepted.{WellFormed, well-formed, chart-left}
 use Rattle.chart.proofs.Chart.{states-of}
 use Rattle.chart.proofs.Converse.{formed-unmet, accepted-formed}
 use Rattle.chart.proofs.Reading.{drawn}
@@ -56,6 +57,9 @@ module _ (s : List ℕ) where
     ok : WellFormed s
     ok = well-formed s chart-passed
 
+    dr : Drawn (chartOf s)
+    dr = drawn passed
+
     no-loops : lowest (onZeroLoop (chartOf s)) (stateCount s) ≡ none
     unfolding loopRow
     no-loops = unmet-row (parts .1) .0
@@ -64,14 +68,21 @@ module _ (s : List ℕ) where
     timed : (v : ℕ) → OnZeroLoop (chartOf s) v → ⊥
     timed v c =
         let G = chartOf s in
-        let l : v < stateCount s = omega (arith, chain-below (drawn passed) c, states-of s) in
+        let l : v < stateCount s = omega (arith, chain-below dr c, states-of s) in
         false≢true (sym (none-below (onZeroLoop G) (stateCount s) no-loops v l) ∙ on-zero-loop-iff G v .1 c)
 
     -- rows 7 to 9 and 19 are the premises of the theory
     pub accepted-only : Accepted (chartOf s)
-    accepted-only = chart-accepted s ok timed
+    accepted-only =
+        record {
+          starts = dr .starts;
+          ends = dr .ends;
+          slots = dr .slots;
+          leaves = chart-left s ok;
+          timed = timed;
+        }
 
-    pub accepted-passes : (v : ℕ) → v < stateCount s → (r : Run (chartOf s) v) → Passes r
+    pub accepted-passes : (v : ℕ) → v < stateCount s → (r : Run (chartOf s) v) → Passes (r .duration)
     accepted-passes v l r = passes accepted-only v (omega (arith, states-of s)) r
 
     format : ChartFormat s

@@ -10,7 +10,7 @@ use Rattle.tctl.specs.Accepted.{Instant, last, next, OnZeroLoop}
 use Rattle.tctl.proofs.Drawn.{Drawn, quickest}
 use Rattle.tctl.proofs.Path.{Path, stop, step, steps, minutes, Any, step-cast}
 use Rattle.tctl.proofs.Loop.{looped}
-use Rattle.tctl.proofs.Passing.{instant}
+use Rattle.tctl.proofs.Instant.{instant}
 use Rattle.model.specs.Engine.{num}
 use Rattle.model.proofs.Numbers.{set-elim}
 use Rattle.loops.specs.declared.Search.the-variants.{Ranks, Batch}

@@ -1,20 +1,23 @@
 -- The chart of ticks: the same arrows, each taking a tick where time can pass in it and none where it cannot.
 use mathlib.Core.Path.{sym, subst, ap, _∙_}
 use mathlib.Core.Logic.{by-cases}
-use mathlib.Core.List.{map, List·Memᴰ, Memᴰ·map, Memᴰ·of-map}
+use mathlib.Core.Bool.{true}
+use mathlib.Core.List.{Memᴰ·map, Memᴰ·of-map}
 use Prim.Native.Nat.{ℕ, zero, suc, _≤_, _<_, min, max}
 use native.Mathlib.Omega.{arith}
 use native.Mathlib.Decide.{decLe}
-use Rattle.tctl.specs.Chart.{Chart, Arrow, Most, upTo, noEnd, Within}
-use Rattle.tctl.specs.Run.{Run, Step, total, moment}
+use Rattle.tctl.specs.Chart.{Chart, Most, upTo, noEnd, Within, states}
+use Rattle.tctl.specs.Run.{Run, Step, total}
 use Rattle.tctl.proofs.Drawn.{Drawn}
 use Rattle.tctl.proofs.Path.{Path, stop, step, steps, minutes}
 use Rattle.tctl.proofs.Run.{Passes, total-suc}
+use Rattle.tctl.proofs.Loop.{Slow, shorten}
 use Rattle.model.specs.Decide.{tick, ticking}
-use Rattle.model.proofs.Weigh.{Weighed, weighed-drawn}
+use Rattle.model.specs.Weighed.{weighedChart}
+use Rattle.model.proofs.Weighed.{weighed-drawn}
 
 abbrev pub ticks : Chart → Chart
-ticks G = record { labels = G .labels; arrows = map ticking (G .arrows) }
+ticks G = weighedChart true G
 
 -- ── Slots ──
 
@@ -38,10 +41,7 @@ tick-le noEnd e h = omega arith
 
 module _ {G : Chart} (dr : Drawn G) where
   pub ticks-drawn : Drawn (ticks G)
-  ticks-drawn = weighed-drawn G (λ a m. (dr .starts a m, dr .ends a m)) (map ticking (G .arrows)) weighed
-    where
-      weighed : (b : Arrow) → List·Memᴰ b (map ticking (G .arrows)) → Weighed (G .arrows) b
-      weighed b m = let w = Memᴰ·of-map ticking (G .arrows) m in (w .0, w .1, tick (w .0 .most), w .2)
+  ticks-drawn = weighed-drawn true dr
 
   untick : {s e t : ℕ} → Step (ticks G) s e t → (d : ℕ) × (e ≤ d) × Step G s d t
   untick {s} {e} {t} x =
@@ -71,12 +71,48 @@ module _ {G : Chart} (dr : Drawn G) where
       (step g (y .2) (q .0), omega (arith, q .1, y .1))
 
   -- at most one tick for each step
-  pub ticks-le-steps : {go end : ℕ → Type 0} {s : ℕ} (p : Path (ticks G) go end s) → minutes p ≤ steps p
+  ticks-le-steps : {go end : ℕ → Type 0} {s : ℕ} (p : Path (ticks G) go end s) → minutes p ≤ steps p
   ticks-le-steps (stop e) = omega arith
   ticks-le-steps (step {d = d} g x p) =
       let w = Memᴰ·of-map ticking (G .arrows) (x .drawn) in
       let one = tick-le (w .0 .most) d (subst (λ c. Within d (c .most)) (sym (w .2)) (x .greatest)) in
       omega (arith, ticks-le-steps p)
+
+  -- A path of n ticks goes round a loop in which a tick passes, for without its loops it would have fewer than n steps.
+  pub ticks-lasso :
+      {go end : ℕ → Type 0} {s : ℕ} → s < states G → (p : Path (ticks G) go end s) → states G ≤ minutes p →
+      Slow (ticks G) go end s
+  ticks-lasso l p h =
+      let x = shorten ticks-drawn l p in
+      x .quicker (omega (arith, x .short, ticks-le-steps (x .path)))
+
+-- ── Durations in ticks ──
+
+tick-some : (f : ℕ → ℕ) (i : ℕ) → 1 ≤ total f i → 1 ≤ total (λ j. min 1 (f j)) i
+unfolding total
+tick-some f zero h = h
+tick-some f (suc i) h =
+    let ih = tick-some f i in
+    by-cases (decLe 1 (total f i)) (λ k. omega (arith, ih k)) (λ k. omega arith)
+
+-- where the minutes are more, the ticks are more
+tick-more : (f : ℕ → ℕ) (j i : ℕ) → total f j < total f i → total (λ j. min 1 (f j)) j < total (λ j. min 1 (f j)) i
+unfolding total
+tick-more f zero i h = tick-some f i h
+tick-more f (suc j) zero h = absurd (let z : ⊥ = omega arith in z)
+tick-more f (suc j) (suc i) h =
+    let g : ℕ → ℕ = λ k. min 1 (f k) in
+    let ih = tick-more (λ k. f (suc k)) j i (omega (arith, total-suc f j, total-suc f i)) in
+    omega (arith, ih, total-suc g j, total-suc g i)
+
+-- the minutes pass every number, so the ticks do
+pub tick-passes : (f : ℕ → ℕ) → Passes f → Passes (λ i. min 1 (f i))
+unfolding total
+tick-passes f h zero = let y = h 0 in (y .0, tick-more f 0 (y .0) (y .1))
+tick-passes f h (suc c) =
+    let x = tick-passes f h c in
+    let y = h (total f (x .0)) in
+    (y .0, omega (arith, x .1, tick-more f (x .0) (y .0) (y .1)))
 
 -- ── Runs in ticks ──
 
@@ -99,29 +135,3 @@ ticked r =
       starts = r .starts;
       moves = λ i. ticked-step (r .moves i);
     }
-
-tick-some : (f : ℕ → ℕ) (i : ℕ) → 1 ≤ total f i → 1 ≤ total (λ j. min 1 (f j)) i
-unfolding total
-tick-some f zero h = h
-tick-some f (suc i) h =
-    let ih = tick-some f i in
-    by-cases (decLe 1 (total f i)) (λ k. omega (arith, ih k)) (λ k. omega arith)
-
--- where the minutes are more, the ticks are more
-tick-more : (f : ℕ → ℕ) (j i : ℕ) → total f j < total f i → total (λ j. min 1 (f j)) j < total (λ j. min 1 (f j)) i
-unfolding total
-tick-more f zero i h = tick-some f i h
-tick-more f (suc j) zero h = absurd (let z : ⊥ = omega arith in z)
-tick-more f (suc j) (suc i) h =
-    let g : ℕ → ℕ = λ k. min 1 (f k) in
-    let ih = tick-more (λ k. f (suc k)) j i (omega (arith, total-suc f j, total-suc f i)) in
-    omega (arith, ih, total-suc g j, total-suc g i)
-
--- the minutes pass every moment, so the ticks do
-pub ticked-passes : {G : Chart} {s : ℕ} (r : Run G s) → Passes r → Passes (ticked r)
-unfolding total
-ticked-passes r f zero = let y = f 0 in (y .0, tick-more (r .duration) 0 (y .0) (y .1))
-ticked-passes r f (suc c) =
-    let x = ticked-passes r f c in
-    let y = f (moment r (x .0)) in
-    (y .0, omega (arith, x .1, tick-more (r .duration) (x .0) (y .0) (y .1)))

@@ -8,6 +8,7 @@ use lib.Dec.{eqb}
 use borrow.Author.Tests.{eq-eqb, ne-eqb}
 use Rattle.truth.proofs.Truth.{cond-elim}
 use Rattle.tctl.specs.Tabulate.{tabulate}
+use Rattle.tctl.proofs.Tabulate.{map-tabulate}
 use Rattle.chart.specs.Bytes.{arrowCount, arrowWords, arrowOf, chartOf}
 use Rattle.chart.specs.Refusals.{chartRefusal}
 use Rattle.chart.specs.declared.ArrowWords.{ArrowWords}
@@ -45,11 +46,6 @@ stays-finished (a ∷ l) zero j e = absurd (subst IsArrow e tt)
 stays-finished (a ∷ l) (suc i) j e =
     let k : suc i + j ≡ suc (i + j) = omega arith in
     ap (handedOf (a ∷ l)) k ∙ stays-finished l i j e
-
-map-tabulate : {A B : Type 0} (f : A → B) (m : ℕ) (g : ℕ → A) → map f (tabulate m g) ≡ tabulate m (λ i. f (g i))
-unfolding tabulate
-map-tabulate f zero g = refl
-map-tabulate f (suc m) g = ap (λ l. f (g 0) ∷ l) (map-tabulate f m (λ i. g (suc i)))
 
 module _ (s : List ℕ) where
   passed-arrows : chartRefusal s .number ≡ 0 → arrowsIn s ≡ tabulate (arrowCount s) (arrowWords s)

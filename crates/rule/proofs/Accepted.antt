@@ -81,10 +81,10 @@ module _ {s : List ℕ} (acc : Accepted s) (t : ℕ) (l : t < nodeCount s) where
   form = formOf (node .operation)
 
   -- check 14 of its operation and kind, and of a
-  formed-parts : ((ltb 4 form || wrongKind form (node .kind)) ≡ false) × (wrongA form (node .a) ≡ false)
+  formed-parts : ((ltb 4 form || wrongKind form node) ≡ false) × (wrongA form (node .a) ≡ false)
   unfolding malformed
   formed-parts =
-      let kinds = ltb 4 form || wrongKind form (node .kind) in
+      let kinds = ltb 4 form || wrongKind form node in
       let fields = kinds || wrongA form (node .a) in
       let a = or-false (fields || (ltb form 4 && not (eqb (node .c) 0))) _ (acc .formed t l) .0 in
       or-false kinds _ (or-false fields _ a .0)

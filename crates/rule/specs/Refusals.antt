@@ -12,8 +12,8 @@ use Rattle.rule.specs.Form.{formOf}
 use Rattle.rule.specs.declared.NodeWords.{NodeWords}
 
 -- "Kind is 1 (at most c) or 2 (at least c) for 5 and 6, else 0."
-unfoldable pub wrongKind : ℕ → ℕ → Bool
-wrongKind form kind = cond (eqb form 4) (outside 1 2 kind) (not (eqb kind 0))
+unfoldable pub wrongKind : ℕ → NodeWords → Bool
+wrongKind form w = cond (eqb form 4) (outside 1 2 (w .kind)) (not (eqb (w .kind) 0))
 
 -- "1 label a (0 to 15)"; "Fields not used are 0"
 unfoldable pub wrongA : ℕ → ℕ → Bool
@@ -26,7 +26,7 @@ malformed w =
     -- unknown operation
     ltb 4 form ||
     -- wrong kind
-    wrongKind form (w .kind) ||
+    wrongKind form w ||
     -- label above 15, or a not used and not 0
     wrongA form (w .a) ||
     -- c not used and not 0

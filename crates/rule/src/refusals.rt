@@ -28,13 +28,13 @@ fn size_refusal(rule: &[u8]) -> Outcome
     outcome::accepted()
 }
 
-fn wrong_kind(form: u8, kind: u8) -> bool
-    ensures { λ r. ⌜ r ≡ wrongKind form kind ⌝ }
+fn wrong_kind(form: u8, w: NodeWords) -> bool
+    ensures { λ r. ⌜ r ≡ wrongKind form w ⌝ }
 {
     if form == 4 {
-        return kind < 1 || 2 < kind;
+        return w.kind < 1 || 2 < w.kind;
     }
-    kind != 0
+    w.kind != 0
 }
 
 fn wrong_a(form: u8, a: usize) -> bool
@@ -54,7 +54,7 @@ fn is_malformed(w: NodeWords) -> bool
     if 4 < form {
         return true;
     }
-    if wrong_kind(form, w.kind) {
+    if wrong_kind(form, w) {
         return true;
     }
     if wrong_a(form, w.a) {

@@ -11,7 +11,7 @@ use Rattle.tctl.specs.Run.{Run, Step, total, moment}
 use Rattle.tctl.specs.Formula.{atLeast}
 use Rattle.tctl.proofs.Drawn.{Drawn, step-below}
 use Rattle.tctl.proofs.Path.{Path, stop, step, minutes}
-use Rattle.tctl.proofs.Run.{Passes, Lively, first, after, moment-after, passes-after}
+use Rattle.tctl.proofs.Run.{Passes, Lively, first, after, moment-after, passes-rest}
 use Rattle.tctl.proofs.Until.{Until, later, until-weaken}
 use Rattle.tctl.proofs.Unmet.{Unmet, unmet-here, unmet-ahead, unmet-weaken}
 
@@ -24,7 +24,7 @@ pub data Open (G : Chart) (P Q : ℕ → Type 0) (s : ℕ) : Type 0 where
 pub record Sure (G : Chart) (P Q : ℕ → Type 0) (s : ℕ) : Type 0 where
   pub holds : P s
   pub onward :
-      {d t : ℕ} → Step G s d t → (r : Run G t) → Passes r → Until P Q (atLeast 0) 0 (r .state) (r .duration)
+      {d t : ℕ} → Step G s d t → (r : Run G t) → Passes (r .duration) → Until P Q (atLeast 0) 0 (r .state) (r .duration)
 
 module _ {G : Chart} (dr : Drawn G) {P Q go bad : ℕ → Type 0} {c : ℕ} where
   -- before the moment c it is not met, and after the path it may fail
@@ -48,7 +48,7 @@ module _ {G : Chart} (dr : Drawn G) {P Q go bad : ℕ → Type 0} {c : ℕ} wher
     -- comes to c the until is met with no bound.
     met-from :
         (i k : ℕ) {s : ℕ} → s < states G → k < c → ((p : Path G go bad s) → c ≤ k + minutes p) →
-        (r : Run G s) → Passes r → c ≤ k + moment r i → Until P Q (atLeast c) k (r .state) (r .duration)
+        (r : Run G s) → Passes (r .duration) → c ≤ k + moment r i → Until P Q (atLeast c) k (r .state) (r .duration)
     unfolding total
     met-from zero k l m far r f h = absurd (let z : ⊥ = omega arith in z)
     met-from (suc i) k {s} l m far r f h =
@@ -59,8 +59,8 @@ module _ {G : Chart} (dr : Drawn G) {P Q go bad : ℕ → Type 0} {c : ℕ} wher
         d : ℕ
         d = r .duration 0
 
-        passing : Passes (after r)
-        passing = passes-after r f
+        passing : Passes (after r .duration)
+        passing = passes-rest (r .duration) f
 
         Rest : Type 0
         Rest = Until P Q (atLeast c) (k + d) (after r .state) (after r .duration)
@@ -79,7 +79,8 @@ module _ {G : Chart} (dr : Drawn G) {P Q go bad : ℕ → Type 0} {c : ℕ} wher
             early n = ih (omega arith) (λ p. let z = far (step (all s) (first r) p) in omega arith)
 
     pub met-unless-early :
-        {s : ℕ} → s < states G → 0 < c → ((p : Path G go bad s) → c ≤ minutes p) → (r : Run G s) → Passes r →
+        {s : ℕ} → s < states G → 0 < c → ((p : Path G go bad s) → c ≤ minutes p) →
+        (r : Run G s) → Passes (r .duration) →
         Until P Q (atLeast c) 0 (r .state) (r .duration)
     met-unless-early l m far r f =
         let x = f c in

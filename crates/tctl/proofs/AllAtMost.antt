@@ -85,5 +85,6 @@ module _
           later (subst P (sym (r .starts)) p) (ih (λ w. no-late (late-ahead (p, q) (first r) w)))
 
   pub met-unless-late :
-      {s : ℕ} → ¬ Late G P Q m 0 s → (r : Run G s) → Passes r → Until P Q (atMost c) 0 (r .state) (r .duration)
+      {s : ℕ} → ¬ Late G P Q m 0 s → (r : Run G s) → Passes (r .duration) →
+      Until P Q (atMost c) 0 (r .state) (r .duration)
   met-unless-late no-late r f = let x = f c in met-by (x .0) 0 no-late r (omega (arith, x .1))

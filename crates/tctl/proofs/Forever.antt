@@ -3,9 +3,9 @@ use mathlib.Core.Path.{_≡_, refl, sym, subst}
 use Prim.Native.Nat.{ℕ, zero, suc, _+_, _≤_}
 use native.Mathlib.Omega.{arith}
 use Rattle.tctl.specs.Chart.{Chart}
-use Rattle.tctl.specs.Run.{Run, Step, moment}
+use Rattle.tctl.specs.Run.{Run, Step, total}
 use Rattle.tctl.proofs.Path.{Path, stop, step, minutes, step-cast}
-use Rattle.tctl.proofs.Run.{Passes, moment-after, unroll}
+use Rattle.tctl.proofs.Run.{Passes, total-suc, paces, unroll}
 
 -- a loop: a step from u, and the way back to u
 module _ {G : Chart} {go : ℕ → Type 0} {u d t : ℕ} (g : go u) (x : Step G u d t) (back : Path G go (λ y. y ≡ u) t) where
@@ -16,6 +16,29 @@ module _ {G : Chart} {go : ℕ → Type 0} {u d t : ℕ} (g : go u) (x : Step G 
   abbrev onward : {s : ℕ} → Path G go (λ y. y ≡ u) s → (v : Left) × (e : ℕ) × Step G s e (v .0)
   onward (stop e) = ((t, back), d, step-cast e refl x)
   onward (step {d = e} {t = v} h y p) = ((v, p), e, y)
+
+  -- the durations on the way to u, and then round the loop for ever
+  abbrev pace : {s : ℕ} → Path G go (λ y. y ≡ u) s → ℕ → ℕ
+  pace {s} p = paces {G = G} {S = Left} (λ w. w .0) (λ w. onward (w .1)) (s, p)
+
+  -- what the moments pass from u on, they pass after the way to u
+  passes-on :
+      (c : ℕ) → ((s : ℕ) (e : s ≡ u) → (i : ℕ) × c ≤ total (pace (stop e)) i) →
+      {s : ℕ} (p : Path G go (λ y. y ≡ u) s) → (i : ℕ) × c + minutes p ≤ total (pace p) i
+  passes-on c f (stop {s} e) = let z = f s e in (z .0, omega (arith, z .1))
+  passes-on c f (step h y p) =
+      let z = passes-on c f p in
+      (suc (z .0), omega (arith, z .1, total-suc (pace (step h y p)) (z .0)))
+
+  -- each time round the loop adds a minute
+  passes-from : 1 ≤ d + minutes back → (c s : ℕ) (e : s ≡ u) → (i : ℕ) × c ≤ total (pace (stop e)) i
+  passes-from long zero s e = (0, omega arith)
+  passes-from long (suc c) s e =
+      let z = passes-on c (passes-from long c) back in
+      (suc (z .0), omega (arith, z .1, total-suc (pace (stop e)) (z .0)))
+
+  passes : 1 ≤ d + minutes back → {s : ℕ} (p : Path G go (λ y. y ≡ u) s) → Passes (pace p)
+  passes long p c = let z = passes-on (suc c) (passes-from long (suc c)) p in (z .0, omega (arith, z .1))
 
   abbrev round : {s : ℕ} → Path G go (λ y. y ≡ u) s → Run G s
   round {s} p = unroll {S = Left} (λ w. w .0) (λ w. onward (w .1)) (s, p)
@@ -28,29 +51,10 @@ module _ {G : Chart} {go : ℕ → Type 0} {u d t : ℕ} (g : go u) (x : Step G 
   goes p zero = goes-now p
   goes p (suc i) = goes (onward p .0 .1) i
 
-  -- what the run passes from u on, it passes after the way to u
-  passes-on :
-      (c : ℕ) → ((s : ℕ) (e : s ≡ u) → (i : ℕ) × c ≤ moment (round (stop e)) i) →
-      {s : ℕ} (p : Path G go (λ y. y ≡ u) s) → (i : ℕ) × c + minutes p ≤ moment (round p) i
-  passes-on c f (stop {s} e) = let z = f s e in (z .0, omega (arith, z .1))
-  passes-on c f (step h y p) =
-      let z = passes-on c f p in
-      (suc (z .0), omega (arith, z .1, moment-after (round (step h y p)) (z .0)))
-
-  -- each time round the loop adds a minute
-  passes-from : 1 ≤ d + minutes back → (c s : ℕ) (e : s ≡ u) → (i : ℕ) × c ≤ moment (round (stop e)) i
-  passes-from long zero s e = (0, omega arith)
-  passes-from long (suc c) s e =
-      let z = passes-on c (passes-from long c) back in
-      (suc (z .0), omega (arith, z .1, moment-after (round (stop e)) (z .0)))
-
-  passes : 1 ≤ d + minutes back → {s : ℕ} (p : Path G go (λ y. y ≡ u) s) → Passes (round p)
-  passes long p c = let z = passes-on (suc c) (passes-from long (suc c)) p in (z .0, omega (arith, z .1))
-
 -- a path to a loop that takes a minute, and round the loop for ever: every state satisfies go
 pub forever :
     {G : Chart} {go : ℕ → Type 0} {u : ℕ} (loop : Path G go (λ y. y ≡ u) u) →
     1 ≤ minutes loop →
-    {s : ℕ} (stem : Path G go (λ y. y ≡ u) s) → (r : Run G s) × Passes r × ((i : ℕ) → go (r .state i))
+    {s : ℕ} (stem : Path G go (λ y. y ≡ u) s) → (r : Run G s) × Passes (r .duration) × ((i : ℕ) → go (r .state i))
 forever (stop e) long stem = absurd (let z : ⊥ = omega arith in z)
 forever (step g x back) long stem = (round g x back stem, passes g x back long stem, goes g x back stem)

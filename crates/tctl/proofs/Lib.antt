@@ -5,7 +5,9 @@ pub mod Run
 pub mod Prefix
 pub mod Pigeonhole
 pub mod Loop
+pub mod Instant
 pub mod Passing
+pub mod Lively
 pub mod Forever
 pub mod Until
 pub mod SomeUntil

@@ -1,29 +1,18 @@
--- The moments of every run of an accepted chart pass every number, and every state has a run.
-use mathlib.Core.Path.{_≡_, refl, sym, subst, _∙_}
+-- The moments of every run of an accepted chart pass every number.
+use mathlib.Core.Path.{_≡_}
 use mathlib.Core.Logic.{by-cases}
 use Prim.Native.Nat.{ℕ, zero, suc, _+_, _≤_, _<_}
 use native.Mathlib.Omega.{arith}
 use native.Mathlib.Decide.{decLe}
 use Rattle.tctl.specs.Chart.{Chart, states}
-use Rattle.tctl.specs.Run.{Run, Step, total, moment}
-use Rattle.tctl.specs.Accepted.{Accepted, Instant, last, next}
-use Rattle.tctl.proofs.Drawn.{Drawn, accepted-drawn, step-below, quickest}
-use Rattle.tctl.proofs.Path.{Path, stop, step, steps, minutes, Any, step-cast}
-use Rattle.tctl.proofs.Run.{Passes, Lively, first, after, moment-after, unroll}
+use Rattle.tctl.specs.Run.{Run, total, moment}
+use Rattle.tctl.specs.Accepted.{Accepted}
+use Rattle.tctl.proofs.Drawn.{Drawn, accepted-drawn, step-below}
+use Rattle.tctl.proofs.Path.{Path, steps, minutes, Any}
+use Rattle.tctl.proofs.Run.{Passes, first, after, moment-after}
 use Rattle.tctl.proofs.Prefix.{prefix}
 use Rattle.tctl.proofs.Loop.{looped}
-
--- the arrows of a path that takes no minute have fewest 0
-pub instant :
-    {G : Chart} {go : ℕ → Type 0} (u : ℕ) {s : ℕ} (p : Path G go (λ x. x ≡ u) s) →
-    1 ≤ steps p →
-    minutes p ≡ 0 →
-    Instant G u s
-instant u (stop e) l h = absurd (let z : ⊥ = omega arith in z)
-instant u (step g x (stop e)) l h = last (x .arrow) (x .drawn) (x .leaves) (omega (arith, x .least)) (x .enters ∙ e)
-instant {G} u (step g x (step g′ x′ p)) l h =
-    let more = subst (Instant G u) (sym (x .enters)) (instant u (step g′ x′ p) (omega arith) (omega arith)) in
-    next (x .arrow) (x .drawn) (x .leaves) (omega (arith, x .least)) more
+use Rattle.tctl.proofs.Instant.{instant}
 
 module _ {G : Chart} (acc : Accepted G) where
   dr : Drawn G
@@ -60,15 +49,5 @@ module _ {G : Chart} (acc : Accepted G) where
       let x = beyond c (passes-by c) (states G) s l r in
       (x .0, omega (arith, x .1, advance s l r))
 
-  pub passes : (s : ℕ) → s < states G → (r : Run G s) → Passes r
+  pub passes : (s : ℕ) → s < states G → (r : Run G s) → Passes (r .duration)
   passes s l r c = passes-by c s l r
-
-  -- every state is left by an arrow, and the next state again
-  pub lively : Lively G
-  lively s l = let r = unroll {S = (x : ℕ) × x < states G} (λ x. x .0) onward (s, l) in (r, passes s l r)
-    where
-      onward : (x : (s : ℕ) × s < states G) → (y : (t : ℕ) × t < states G) × (d : ℕ) × Step G (x .0) d (y .0)
-      onward x =
-          let w = acc .leaves (x .0) (x .1) in
-          let a = w .0 in
-          ((a .end, dr .ends a (w .1)), a .fewest, step-cast (sym (w .2)) refl (quickest dr a (w .1)))

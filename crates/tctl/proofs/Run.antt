@@ -7,15 +7,16 @@ use Rattle.tctl.specs.Run.{Run, Step, total, moment}
 use Rattle.tctl.proofs.Drawn.{Drawn, step-below}
 use Rattle.tctl.proofs.Path.{step-cast}
 
--- the moments of the run pass every number
-abbrev pub Passes : {G : Chart} {s : ℕ} → Run G s → Type 0
-Passes r = (c : ℕ) → (i : ℕ) × c < moment r i
+-- the moments of a run with these durations pass every number: said of durations, so that it can be shown before there
+-- is a run
+abbrev pub Passes : (ℕ → ℕ) → Type 0
+Passes d = (c : ℕ) → (i : ℕ) × c < total d i
 
 -- every state has a run whose moments pass every number
 abbrev pub Lively : Chart → Type 0
-Lively G = (s : ℕ) → s < states G → (r : Run G s) × Passes r
+Lively G = (s : ℕ) → s < states G → (r : Run G s) × Passes (r .duration)
 
--- ── Sums ──
+-- ── Durations and their sums ──
 
 pub total-suc : (f : ℕ → ℕ) (i : ℕ) → total f (suc i) ≡ f 0 + total (λ j. f (suc j)) i
 unfolding total
@@ -27,6 +28,19 @@ abbrev front : ℕ → (ℕ → ℕ) → ℕ → ℕ
 front a f zero = a
 front a f (suc i) = f i
 
+pub passes-front : (a : ℕ) (f : ℕ → ℕ) → Passes f → Passes (front a f)
+passes-front a f h c =
+    let p = h c in
+    (suc (p .0), omega (arith, p .1, total-suc (front a f) (p .0)))
+
+pub passes-rest : (f : ℕ → ℕ) → Passes f → Passes (λ i. f (suc i))
+unfolding total
+passes-rest f h c = let p = h (c + f 0) in turn (p .0) (p .1)
+  where
+    turn : (i : ℕ) → c + f 0 < total f i → (j : ℕ) × c < total (λ i. f (suc i)) j
+    turn zero l = absurd (let z : ⊥ = omega arith in z)
+    turn (suc i) l = (i, omega (arith, total-suc f i))
+
 module _ {G : Chart} where
   -- ── A step and then a run ──
 
@@ -37,11 +51,6 @@ module _ {G : Chart} where
       moves : (i : ℕ) → Step G (front s (r .state) i) (front d (r .duration) i) (front s (r .state) (suc i))
       moves zero = step-cast refl (r .starts) x
       moves (suc i) = r .moves i
-
-  pub passes-ahead : {s d t : ℕ} (x : Step G s d t) (r : Run G t) → Passes r → Passes (ahead x r)
-  passes-ahead {d = d} x r h c =
-      let p = h c in
-      (suc (p .0), omega (arith, p .1, total-suc (front d (r .duration)) (p .0)))
 
   -- ── A run after its first step ──
 
@@ -60,14 +69,6 @@ module _ {G : Chart} where
   pub moment-after : {s : ℕ} (r : Run G s) (i : ℕ) → moment r (suc i) ≡ r .duration 0 + moment (after r) i
   moment-after r i = total-suc (r .duration) i
 
-  pub passes-after : {s : ℕ} (r : Run G s) → Passes r → Passes (after r)
-  unfolding total
-  passes-after r f c = turn (f (c + r .duration 0) .0) (f (c + r .duration 0) .1)
-    where
-      turn : (i : ℕ) → c + r .duration 0 < moment r i → (j : ℕ) × c < moment (after r) j
-      turn zero h = absurd (let z : ⊥ = omega arith in z)
-      turn (suc i) h = (i, omega (arith, moment-after r i))
-
   -- a run stays in the chart's states
   pub run-below : Drawn G → {s : ℕ} → s < states G → (r : Run G s) (i : ℕ) → r .state i < states G
   run-below dr l r zero = subst (λ u. u < states G) (sym (r .starts)) l
@@ -84,6 +85,9 @@ module _ {G : Chart} {S : Type 0} (at : S → ℕ) (next : (x : S) → (y : S) �
   moves x zero = next x .2
   moves x (suc i) = moves (next x .0) i
 
+  -- its durations
+  abbrev pub paces : S → ℕ → ℕ
+  paces x i = next (walk x i) .1
+
   abbrev pub unroll : (x : S) → Run G (at x)
-  unroll x =
-      record { state = λ i. at (walk x i); duration = λ i. next (walk x i) .1; starts = refl; moves = moves x }
+  unroll x = record { state = λ i. at (walk x i); duration = paces x; starts = refl; moves = moves x }

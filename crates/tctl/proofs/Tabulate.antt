@@ -1,7 +1,7 @@
 -- The laws of tabulate: its length, its entries and its members.
 use mathlib.Core.Path.{_≡_, refl, sym, ap, _∙_}
 use mathlib.Core.Logic.{_⊎_, inl, inr}
-use mathlib.Core.List.{List}
+use mathlib.Core.List.{List, _∷_, map}
 use mathlib.Core.List.{List·Memᴰ, List·Memᴰ·head, List·Memᴰ·tail, List·Memᴰ·cases-cons, List·Memᴰ·not-nil}
 use Prim.Native.Nat.{ℕ, zero, suc, _<_}
 use native.Mathlib.Omega.{arith}
@@ -28,6 +28,15 @@ module _ {ℓ} {A : Type ℓ} where
       ext-getD d l (tabulate n f) (e ∙ sym (length-tabulate n f))
       (λ i k. let m : i < n = omega (arith, e) in h i m ∙ sym (getD-tabulate n f d i m))
 
+  pub tabulate-same :
+      (n : ℕ) (f g : ℕ → A) → ((i : ℕ) → i < n → f i ≡ g i) → tabulate n f ≡ tabulate n g
+  unfolding tabulate
+  tabulate-same zero f g h = refl
+  tabulate-same (suc n) f g h =
+      let first = h 0 (omega arith) in
+      let rest = tabulate-same n (λ i. f (suc i)) (λ i. g (suc i)) (λ i l. h (suc i) (omega arith)) in
+      cc
+
   pub mem-tabulate : (n : ℕ) (f : ℕ → A) (i : ℕ) → i < n → List·Memᴰ (f i) (tabulate n f)
   unfolding tabulate
   mem-tabulate zero f i h = absurd (let z : ⊥ = omega arith in z)
@@ -45,3 +54,8 @@ module _ {ℓ} {A : Type ℓ} where
           (i : ℕ) × (i < suc n) × (a ≡ f i)
       turn ih (inl e) = (0, omega arith, e)
       turn ih (inr k) = let w = ih k in (suc (w .0), omega (arith, w .1), w .2)
+
+pub map-tabulate : {A B : Type 0} (f : A → B) (n : ℕ) (g : ℕ → A) → map f (tabulate n g) ≡ tabulate n (λ i. f (g i))
+unfolding tabulate
+map-tabulate f zero g = refl
+map-tabulate f (suc n) g = ap (λ l. f (g 0) ∷ l) (map-tabulate f n (λ i. g (suc i)))

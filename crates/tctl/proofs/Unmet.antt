@@ -5,13 +5,13 @@ use Prim.Native.Nat.{ℕ, _+_}
 use Rattle.tctl.specs.Chart.{Chart}
 use Rattle.tctl.specs.Run.{Run, Step}
 use Rattle.tctl.specs.Formula.{Bound, Meets}
-use Rattle.tctl.proofs.Run.{Passes, ahead, passes-ahead}
+use Rattle.tctl.proofs.Run.{Passes, ahead, passes-front}
 use Rattle.tctl.proofs.Until.{Until, now-or-later, until-weaken}
 
 -- a run from s whose moments pass every number, along which the until is not met if s has the moment k
 pub record Unmet (G : Chart) (P Q : ℕ → Type 0) (b : Bound) (k s : ℕ) : Type 0 where
   pub run : Run G s
-  pub passing : Passes run
+  pub passing : Passes (run .duration)
   pub never : ¬ Until P Q b k (run .state) (run .duration)
 
 pub unmet-weaken :
@@ -24,7 +24,7 @@ unmet-weaken f u =
 
 module _ {G : Chart} {P Q : ℕ → Type 0} {b : Bound} {k s : ℕ} (not-now : Meets b k → ¬ Q s) where
   -- P is missing at s, so that it is met neither now nor later
-  pub unmet-here : ¬ P s → (r : Run G s) × Passes r → Unmet G P Q b k s
+  pub unmet-here : ¬ P s → (r : Run G s) × Passes (r .duration) → Unmet G P Q b k s
   unmet-here f r =
       let e = r .0 .starts in
       record {
@@ -36,9 +36,9 @@ module _ {G : Chart} {P Q : ℕ → Type 0} {b : Bound} {k s : ℕ} (not-now : M
 
   -- it is not met now, nor, after a step, later
   pub unmet-ahead : {d t : ℕ} → Step G s d t → Unmet G P Q b (k + d) t → Unmet G P Q b k s
-  unmet-ahead x u =
+  unmet-ahead {d} x u =
       record {
         run = ahead x (u .run);
-        passing = passes-ahead x (u .run) (u .passing);
+        passing = passes-front d (u .run .duration) (u .passing);
         never = λ w. ⊎-elim (λ h. not-now (h .0) (h .1)) (λ h. u .never (h .1)) (now-or-later w);
       }

@@ -1,8 +1,8 @@
 -- The numbers and row t are filled from the marks as they came; the sweeps through row t come to the model's numbers.
 use borrow.Author.Needs.{needs}
+use Rattle.engine.proofs.Numbers.{is-greatest}
 use Rattle.nodes.proofs.Rows.{lent-written}
 use Rattle.nodes.proofs.Lent.{joins, numbered, rows-inside}
-use Rattle.nodes.proofs.Untils.{is-greatest}
 use Rattle.nodes.proofs.climb.Statement.{statement}
 use Rattle.nodes.proofs.climb.Tie as tie
 

@@ -1,9 +1,9 @@
 -- Row t is filled from the marks as they came, and the sweeps through it come to the model's numbers.
 use mathlib.Core.Bool.{false}
 use borrow.Author.Needs.{needs}
+use Rattle.engine.proofs.Numbers.{is-least}
 use Rattle.nodes.proofs.Rows.{lent-written}
 use Rattle.nodes.proofs.Lent.{joins}
-use Rattle.nodes.proofs.Untils.{is-least}
 use Rattle.nodes.proofs.descend.Statement.{statement}
 use Rattle.nodes.proofs.descend.Tie as tie
 

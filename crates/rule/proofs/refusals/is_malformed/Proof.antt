@@ -14,10 +14,10 @@ use Rattle.rule.proofs.refusals.is_malformed.Tie as tie
 kind-is :
     (c : tie.After-wrong-kind) {b : Bool} → c .wrong-kind .result ≡ b →
     let w = c .before .before .before .args .w in
-    wrongKind (formOf (w .operation)) (w .kind) ≡ b
+    wrongKind (formOf (w .operation)) w ≡ b
 kind-is c g =
     let w = c .before .before .before .args .w in
-    ap (λ f. wrongKind f (w .kind)) (sym (c .before .before .form .ensures)) ∙ sym (c .wrong-kind .ensures) ∙ g
+    ap (λ f. wrongKind f w) (sym (c .before .before .form .ensures)) ∙ sym (c .wrong-kind .ensures) ∙ g
 
 a-is :
     (c : tie.After-wrong-a) {b : Bool} → c .wrong-a .result ≡ b →

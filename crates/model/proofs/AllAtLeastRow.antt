@@ -24,7 +24,7 @@ use Rattle.model.proofs.Every.{every-true, every-false}
 use Rattle.model.proofs.Least.{least-le, least-iff}
 use Rattle.model.proofs.Row.{asked}
 use Rattle.model.proofs.Settles.{Settles}
-use Rattle.model.proofs.PlainRow.{plain-settles}
+use Rattle.model.proofs.AllPlainRow.{plain-settles}
 
 module _ {G : Chart} (dr : Drawn G) (live : Lively G) (p q : ℕ → Bool) where
   good : ℕ → Bool
@@ -101,7 +101,7 @@ module _ {G : Chart} (dr : Drawn G) (live : Lively G) (p q : ℕ → Bool) where
       row = allRow (G .arrows) (states G) (atLeast (suc c)) p q
 
       met :
-          (s : ℕ) → s < states G → ask row s ≡ true → (r : Run G s) → Passes r →
+          (s : ℕ) → s < states G → ask row s ≡ true → (r : Run G s) → Passes (r .duration) →
           Until (Yes p) (Yes q) (atLeast (suc c)) 0 (r .state) (r .duration)
       met s l e = met-unless-early dr (λ s. refl) bad-or-sure l (omega arith) far
         where
