@@ -1,4 +1,4 @@
--- One arrow: its words as they were read, and its answers: nothing changes, or the number of its start is set.
+-- One arrow: its words as they were read, and its answers: nothing changes, or the value of its start is set.
 use mathlib.Core.Path.{_≡_, refl, sym, ap, subst, _∙_}
 use mathlib.Core.List.{List}
 use mathlib.Core.Bool.{Bool, true, false, cond, _&&_}
@@ -15,28 +15,32 @@ use Rattle.model.proofs.Lower.{lower-elim}
 use Rattle.model.proofs.Raise.{offer-le, raise-elim}
 use Rattle.chart.specs.declared.ArrowWords.{ArrowWords}
 use Rattle.chart.specs.Bytes.{arrowWords, mostOf, arrowOf}
-use Rattle.chart.specs.Shape.{Small}
-use Rattle.chart.proofs.Reading.{arrow-ends}
+use Rattle.chart.specs.Shape.{Small, Slot}
+use Rattle.chart.proofs.Reading.{arrow-ends, slot}
+use Rattle.hints.specs.Values.{valueOf, values}
+use Rattle.hints.proofs.Values.{value-at, values-length, values-set}
 use Rattle.engine.specs.declared.Change.{Change}
 use Rattle.engine.specs.declared.Change.the-variants.{Lower, Raise}
 use Rattle.engine.specs.declared.Climb.{Climb}
-use Rattle.engine.specs.Change.{highest, changeOf, left}
-use Rattle.engine.specs.Parts.{Lent, Placed, Changed}
+use Rattle.engine.specs.Change.{highest, seen, changeOf, left}
+use Rattle.engine.specs.Parts.{Lent, Placed, Changed, Altered}
 use Rattle.engine.proofs.Total.{total-set}
+use Rattle.engine.proofs.Limits.{seen-length}
 
 -- arrow i of a chart that passed names states
 pub placed :
-    {chart go vs : List ℕ} {n m i : ℕ} {w : ArrowWords} → Lent chart n m go vs → i < m →
-    (w ≡ arrowWords chart i) × Small w → Placed w go vs
-placed {i = i} lent l (e, small) =
+    {chart go ns : List ℕ} {n m i : ℕ} {w : ArrowWords} (change : Change) → Lent chart n m go (seen change ns) → i < m →
+    (w ≡ arrowWords chart i) × Small w → Placed change w go ns
+placed {ns = ns} {i = i} change lent l (e, small) =
     let x = arrow-ends (lent .passed) i l in
     let f = ap (λ (w : ArrowWords). w .start) e in
     let g = ap (λ (w : ArrowWords). w .end) e in
+    let size = sym (seen-length change ns) ∙ lent .numbers .size in
     record {
-      small = small;
-      start = omega (arith, x .0, lent .numbers .size);
-      end = omega (arith, x .1, lent .numbers .size);
-      row = lent .row ∙ sym (lent .numbers .size);
+      slot = subst Slot (sym e) (slot (lent .passed) i l (subst Small e small));
+      start = omega (arith, x .0);
+      end = omega (arith, x .1);
+      row = lent .row ∙ sym size;
       capped = lent .numbers .capped;
     }
 
@@ -67,7 +71,7 @@ module _ (go : List ℕ) (w : ArrowWords) (vs : List ℕ) where
   new = w .fewest + there
 
   module _ {v : ℕ} (is : v ≡ cond (flag go (w .start)) new 131072) where
-    pub lower-stays : here ≤ v → Changed Lower 0 vs (changeOf Lower (flag go) (arrowOf w) vs) vs
+    pub lower-stays : here ≤ v → Altered Lower 0 go w vs vs
     unfolding changeOf
     lower-stays h =
         stays
@@ -76,7 +80,7 @@ module _ (go : List ℕ) (w : ArrowWords) (vs : List ℕ) where
 
     pub lower-moves :
         w .start < length vs → here ≤ highest → v < here →
-        Changed Lower (w .start + 1) vs (changeOf Lower (flag go) (arrowOf w) vs) (set vs (w .start) v)
+        Altered Lower (w .start + 1) go w vs (set vs (w .start) v)
     unfolding changeOf
     lower-moves i j l = turn (flag go (w .start)) refl
       where
@@ -91,57 +95,81 @@ module _ (go : List ℕ) (w : ArrowWords) (vs : List ℕ) where
             (λ q. absurd (let z : ⊥ = omega (arith, q f) in z)) (λ y l. ap (set vs (w .start)) (sym e)))
             (omega (arith, total-set (λ v. v) vs (w .start) v i))
 
+-- Of numbers with hints, x and y are the values of the end and of the start.
+module _
+    (go : List ℕ) (w : ArrowWords) (ns : List ℕ) {x y : ℕ} (end : x ≡ valueOf (num ns (w .end)))
+    (start : y ≡ valueOf (num ns (w .start))) where
+  abbrev vs : List ℕ
+  vs = values ns
+
+  from : y ≡ num vs (w .start)
+  from = start ∙ value-at ns (w .start)
+
+  to : x ≡ num vs (w .end)
+  to = end ∙ value-at ns (w .end)
+
   module _
-      (climb : Climb) {x v : ℕ} (offers : x ≡ offer (climb .cap) (weight (climb .ticks) (mostOf (w .most))) there)
-      (is : v ≡ cond (flag go (w .start) && ltb 0 there) x 0) where
+      (climb : Climb) {p v : ℕ} (offers : p ≡ offer (climb .cap) (weight (climb .ticks) (mostOf (w .most))) x)
+      (is : v ≡ cond (flag go (w .start) && ltb 0 x) p 0) where
     abbrev o : ℕ
-    o = offer (climb .cap) (weight (climb .ticks) (mostOf (w .most))) there
+    o = offer (climb .cap) (weight (climb .ticks) (mostOf (w .most))) (num vs (w .end))
 
-    offered : (flag go (w .start) && ltb 0 there) ≡ true → v ≡ o
-    offered f = is ∙ (ap (λ b. cond b x 0) f ∙ offers)
+    same : p ≡ o
+    same = offers ∙ ap (offer (climb .cap) (weight (climb .ticks) (mostOf (w .most)))) to
 
-    pub raise-stays :
-        v ≤ here → Changed (Raise climb) 0 vs (changeOf (Raise climb) (flag go) (arrowOf w) vs) vs
+    below : v ≤ climb .cap
+    below =
+        subst (λ v. v ≤ climb .cap) (sym is)
+        (cond-elim (λ v. v ≤ climb .cap) (flag go (w .start) && ltb 0 x)
+        (λ e. omega (arith, offers, offer-le (climb .cap) (weight (climb .ticks) (mostOf (w .most))) x))
+        (λ e. omega arith))
+
+    -- what the value becomes is at most the cap
+    pub raise-limit : {u : ℕ} → u ≡ cond (climb .leap) (climb .cap) v → u ≤ climb .cap
+    raise-limit e =
+        subst (λ u. u ≤ climb .cap) (sym e)
+        (cond-elim (λ u. u ≤ climb .cap) (climb .leap) (λ e. omega arith) (λ e. below))
+
+    offered : (flag go (w .start) && ltb 0 x) ≡ true → v ≡ o
+    offered f = is ∙ (ap (λ b. cond b p 0) f ∙ same)
+
+    pub raise-stays : v ≤ y → Altered (Raise climb) 0 go w ns ns
     unfolding changeOf
     raise-stays h =
-        stays
+        stays go w vs
         (raise-elim (climb .leap) (flag go) (climb .cap) (weighing (climb .ticks) (arrowOf w)) vs
-        (λ ws. ws ≡ vs) (λ q. refl) (λ y k l. absurd (let z : ⊥ = omega (arith, offered (both y k)) in z)))
+        (λ ws. ws ≡ vs) (λ q. refl) (λ f k l. absurd (let z : ⊥ = omega (arith, from, offered (both f k)) in z)))
       where
-        both : Yes (flag go) (w .start) → 1 ≤ there → (flag go (w .start) && ltb 0 there) ≡ true
-        both y k = and-iff (flag go (w .start)) (ltb 0 there) .1 (y, lt-ltb 0 there k)
+        both : Yes (flag go) (w .start) → 1 ≤ num vs (w .end) → (flag go (w .start) && ltb 0 x) ≡ true
+        both f k = and-iff (flag go (w .start)) (ltb 0 x) .1 (f, lt-ltb 0 x (omega (arith, to)))
 
     pub raise-moves :
-        w .start < length vs → here < v → {u : ℕ} → u ≡ cond (climb .leap) (climb .cap) v →
-        Changed (Raise climb) (w .start + 1) vs (changeOf (Raise climb) (flag go) (arrowOf w) vs)
-        (set vs (w .start) u)
+        {u : ℕ} (z : ℕ) → w .start < length ns → y < v → u ≡ cond (climb .leap) (climb .cap) v → valueOf z ≡ u →
+        Altered (Raise climb) (w .start + 1) go w ns (set ns (w .start) z)
     unfolding changeOf
-    raise-moves i l {u} e = turn (flag go (w .start) && ltb 0 there) refl
+    raise-moves {u} z i l e h = turn (flag go (w .start) && ltb 0 x) refl
       where
-        below : o ≤ climb .cap
-        below = offer-le (climb .cap) (weight (climb .ticks) (mostOf (w .most))) there
+        expected : List ℕ
+        expected = raise (climb .leap) (flag go) (climb .cap) (weighing (climb .ticks) (arrowOf w)) vs
+
+        more : num vs (w .start) < u
+        more =
+            subst (λ a. num vs (w .start) < a) (sym e)
+            (cond-elim (λ a. num vs (w .start) < a) (climb .leap) (λ e. omega (arith, from, below))
+            (λ e. omega (arith, from)))
 
         turn :
-            (b : Bool) → (flag go (w .start) && ltb 0 there) ≡ b →
-            Changed (Raise climb) (w .start + 1) vs
-            (raise (climb .leap) (flag go) (climb .cap) (weighing (climb .ticks) (arrowOf w)) vs) (set vs (w .start) u)
-        turn false f = absurd (let z : ⊥ = omega (arith, is ∙ ap (λ b. cond b x 0) f) in z)
+            (b : Bool) → (flag go (w .start) && ltb 0 x) ≡ b →
+            Changed (Raise climb) (w .start + 1) vs expected (values (set ns (w .start) z))
+        turn false f = absurd (let z : ⊥ = omega (arith, is ∙ ap (λ b. cond b p 0) f) in z)
         turn true f =
-            moves u i
+            let both = and-iff (flag go (w .start)) (ltb 0 x) .0 f in
+            let some : 1 ≤ num vs (w .end) = omega (arith, to, ltb-true 0 x (both .1)) in
+            let inside : w .start < length vs = omega (arith, values-length ns) in
+            subst (Changed (Raise climb) (w .start + 1) vs expected) (sym (values-set ns (w .start) z h)) (
+            moves go w vs u inside
             (raise-elim (climb .leap) (flag go) (climb .cap) (weighing (climb .ticks) (arrowOf w)) vs
             (λ ws. ws ≡ set vs (w .start) u)
-            (λ q. absurd (let z : ⊥ = omega (arith, q (both .0) (ltb-true 0 there (both .1)), same) in z))
-            (λ y k l. ap (set vs (w .start)) (sym (e ∙ ap (cond (climb .leap) (climb .cap)) same))))
-            (omega (arith, total-set (λ v. climb .cap - v) vs (w .start) u i, more))
-          where
-            both : Yes (flag go) (w .start) × ltb 0 there ≡ true
-            both = and-iff (flag go (w .start)) (ltb 0 there) .0 f
-
-            same : v ≡ o
-            same = offered f
-
-            more : (here < u) × (u ≤ climb .cap)
-            more =
-                subst (λ x. (here < x) × (x ≤ climb .cap)) (sym e)
-                (cond-elim (λ x. (here < x) × (x ≤ climb .cap)) (climb .leap)
-                (λ e. (omega (arith, below, same), omega arith)) (λ e. (l, omega (arith, below, same))))
+            (λ q. absurd (let z : ⊥ = omega (arith, q (both .0) some, from, offered f) in z))
+            (λ y k l. ap (set vs (w .start)) (sym (e ∙ ap (cond (climb .leap) (climb .cap)) (offered f)))))
+            (omega (arith, total-set (λ v. climb .cap - v) vs (w .start) u inside, more, raise-limit e)))

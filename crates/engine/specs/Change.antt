@@ -7,6 +7,7 @@ use Rattle.tctl.specs.Tabulate.{tabulate}
 use Rattle.model.specs.Engine.{rounds, lower, raise}
 use Rattle.model.specs.Weighed.{weighing}
 use Rattle.chart.specs.Bytes.{arrowWords, arrowOf}
+use Rattle.hints.specs.Values.{values}
 use Rattle.engine.specs.declared.Change.{Change}
 use Rattle.engine.specs.declared.Change.the-variants.{Lower, Raise}
 
@@ -18,6 +19,11 @@ highest = 65537
 abbrev pub top : Change → ℕ
 top Lower = highest
 top (Raise climb) = climb .cap
+
+-- what the change works on: numbers that are lowered have no hints, of those that are raised it is the values
+abbrev pub seen : Change → List ℕ → List ℕ
+seen Lower ns = ns
+seen (Raise climb) ns = values ns
 
 -- what the change makes of the numbers at an arrow
 unfoldable pub changeOf : Change → (ℕ → Bool) → Arrow → List ℕ → List ℕ

@@ -1,5 +1,6 @@
 // The engine on lent numbers, one a state: sweeps over a chart's arrows, each of which may change the number of its
-// start, until none does. A row of marks says through which states it goes.
+// start, until none does. A row of marks says through which states it goes. While numbers rise, they have hints above
+// their values; what is promised then is about values, and in the end the hints are taken off.
 ghost use mathlib.Core.Path.{_≡_};
 ghost use mathlib.Core.Bool.{cond, _&&_};
 ghost use Prim.Native.Nat.{_+_, _≤_, _<_, min};
@@ -7,9 +8,11 @@ ghost use lib.Dec.{eqb, ltb};
 ghost use Rattle.model.specs.Engine.{offer};
 ghost use Rattle.model.specs.Marks.{flag};
 ghost use Rattle.model.specs.Weighed.{weight, weighed};
-ghost use Rattle.chart.specs.Bytes.{arrowWords, mostOf, arrowOf, chartOf};
-ghost use Rattle.engine.specs.Change.{highest, top, changeOf, turned, lowered, raised};
-ghost use Rattle.engine.specs.Parts.{Lent, Placed, Changed, Swept, Leapt};
+ghost use Rattle.chart.specs.Bytes.{arrowWords, mostOf, chartOf};
+ghost use Rattle.chart.specs.Shape.{Ends};
+ghost use Rattle.hints.specs.Values.{values};
+ghost use Rattle.engine.specs.Change.{highest, top, seen, turned, lowered, raised};
+ghost use Rattle.engine.specs.Parts.{Lent, Placed, Altered, Swept, Leapt};
 use chart::ArrowWords;
 
 // How a number is raised: by the most minutes or by a tick, to what that gives or to the cap at once.
@@ -27,8 +30,8 @@ enum Change {
 
 // What an arrow with the word most weighs, as such a word.
 fn weight_of(ticks: bool, most: u32) -> u32
-    requires { ⌜ most < 65536 ⌝ }
-    ensures { λ r. ⌜ (mostOf r ≡ weight ticks (mostOf most)) × (r < 65536) ⌝ }
+    requires { ⌜ Ends most ⌝ }
+    ensures { λ r. ⌜ (mostOf r ≡ weight ticks (mostOf most)) × Ends r ⌝ }
 {
     if ticks {
         if most == 0 {
@@ -51,11 +54,11 @@ fn lesser(a: u32, b: u32) -> u32
 
 // What an arrow with the word most offers its start, from its end's number.
 fn offered(climb: Climb, most: u32, there: u32) -> u32
-    requires { ⌜ (most < 65536) × (there ≤ highest) ⌝ }
+    requires { ⌜ Ends most × (there ≤ highest) ⌝ }
     ensures { λ r. ⌜ r ≡ offer (climb .cap) (weight (climb .ticks) (mostOf most)) there ⌝ }
 {
     let w = weight_of(climb.ticks, most);
-    if w == 65535 {
+    if chart::no_end(w) {
         return climb.cap;
     }
     lesser(climb.cap, there + w)
@@ -97,10 +100,8 @@ fn kept(mark: u8, there: u32, v: u32) -> u32
 
 // The arrow a lowers the number of its start. Answers 0 if it does not, else 1 more than that state.
 fn lower(go: &[u8], a: ArrowWords, numbers: &mut [u32]) -> usize
-    requires { ⌜ Placed a (now go) (now numbers) ⌝ }
-    ensures { λ r. ⌜ Changed Change.Lower r (now (numbers .entry))
-        (changeOf Change.Lower (flag (now (go .entry))) (arrowOf a) (now (numbers .entry)))
-        (now (numbers .exit)) ⌝ }
+    requires { ⌜ Placed Change.Lower a (now go) (now numbers) ⌝ }
+    ensures { λ r. ⌜ Altered Change.Lower r (now (go .entry)) a (now (numbers .entry)) (now (numbers .exit)) ⌝ }
 {
     let s = a.start;
     let e = a.end;
@@ -112,37 +113,36 @@ fn lower(go: &[u8], a: ArrowWords, numbers: &mut [u32]) -> usize
     s + 1
 }
 
-// The arrow a raises the number of its start. From an end with the number 0 there is no offer.
-fn raise(climb: Climb, go: &[u8], a: ArrowWords, numbers: &mut [u32]) -> usize
-    requires { ⌜ Placed a (now go) (now numbers) ⌝ }
-    ensures { λ r. ⌜ Changed (Change.Raise climb) r (now (numbers .entry))
-        (changeOf (Change.Raise climb) (flag (now (go .entry))) (arrowOf a) (now (numbers .entry)))
-        (now (numbers .exit)) ⌝ }
+// Arrow i with the words a raises the value of its start, and is then its hint. From an end with the value 0 there is
+// no offer.
+fn raise(climb: Climb, go: &[u8], a: ArrowWords, i: usize, numbers: &mut [u32]) -> usize
+    requires { ⌜ Placed (Change.Raise climb) a (now go) (now numbers) × (climb .cap ≤ highest) × (i < 2048) ⌝ }
+    ensures { λ r. ⌜ Altered (Change.Raise climb) r (now (go .entry)) a
+        (now (numbers .entry)) (now (numbers .exit)) ⌝ }
 {
     let s = a.start;
     let e = a.end;
-    let there = numbers[e];
+    let there = hints::value(numbers[e]);
     let v = kept(go[s], there, offered(climb, a.most, there));
-    if v <= numbers[s] {
+    if v <= hints::value(numbers[s]) {
         return 0;
     }
-    numbers[s] = reached(climb, v);
+    numbers[s] = hints::hinted(reached(climb, v), i);
     s + 1
 }
 
-// The arrow a changes the number of its start.
-fn alter(change: Change, go: &[u8], a: ArrowWords, numbers: &mut [u32]) -> usize
-    requires { ⌜ Placed a (now go) (now numbers) ⌝ }
-    ensures { λ r. ⌜ Changed change r (now (numbers .entry))
-        (changeOf change (flag (now (go .entry))) (arrowOf a) (now (numbers .entry))) (now (numbers .exit)) ⌝ }
+// Arrow i with the words a changes the number of its start.
+fn alter(change: Change, go: &[u8], a: ArrowWords, i: usize, numbers: &mut [u32]) -> usize
+    requires { ⌜ Placed change a (now go) (now numbers) × (top change ≤ highest) × (i < 2048) ⌝ }
+    ensures { λ r. ⌜ Altered change r (now (go .entry)) a (now (numbers .entry)) (now (numbers .exit)) ⌝ }
 {
     match change {
         Change::Lower => lower(go, a, numbers),
-        Change::Raise(climb) => raise(climb, go, a, numbers),
+        Change::Raise(climb) => raise(climb, go, a, i, numbers),
     }
 }
 
-// Arrow i changes the number of its start, and is then its hint.
+// Arrow i changes the number of its start.
 fn step(
     change: Change,
     chart: &[u8],
@@ -150,22 +150,13 @@ fn step(
     m: usize,
     i: usize,
     go: &[u8],
-    hints: &mut [usize; 256],
     numbers: &mut [u32],
 ) -> usize
-    requires { ⌜ Lent (now chart) n m (now go) (now numbers) × (i < m) ⌝ }
-    ensures { λ r. ⌜ Changed change r (now (numbers .entry))
-        (changeOf change (flag (now (go .entry))) (arrowOf (arrowWords (now (chart .entry)) i)) (now (numbers .entry)))
-        (now (numbers .exit)) ⌝ }
+    requires { ⌜ Lent (now chart) n m (now go) (seen change (now numbers)) × (top change ≤ highest) × (i < m) ⌝ }
+    ensures { λ r. ⌜ Altered change r (now (go .entry)) (arrowWords (now (chart .entry)) i)
+        (now (numbers .entry)) (now (numbers .exit)) ⌝ }
 {
-    let a = chart::arrow_at(chart, n, i);
-    let moved = alter(change, go, a, numbers);
-    if moved == 0 {
-        return moved;
-    }
-    let s = moved - 1;
-    hints[s] = i;
-    moved
+    alter(change, go, chart::arrow_at(chart, n, i), i, numbers)
 }
 
 // The arrow that is tried after i others, of m.
@@ -197,46 +188,35 @@ fn sweep(
     n: usize,
     m: usize,
     go: &[u8],
-    hints: &mut [usize; 256],
     numbers: &mut [u32],
 ) -> usize
-    requires { ⌜ Lent (now chart) n m (now go) (now numbers) × (top change ≤ highest) ⌝ }
+    requires { ⌜ Lent (now chart) n m (now go) (seen change (now numbers)) × (top change ≤ highest) ⌝ }
     ensures { λ r. ⌜ Swept change back (now (chart .entry)) m (now (go .entry)) r
-        (now (numbers .entry)) (now (numbers .exit)) ⌝ }
+        (seen change (now (numbers .entry))) (seen change (now (numbers .exit))) ⌝ }
 {
     let mut last = 0;
     let mut i = 0;
     while i < m {
         let j = turn(back, m, i);
-        last = later(last, step(change, chart, n, m, j, go, hints, numbers));
+        last = later(last, step(change, chart, n, m, j, go, numbers));
         i += 1;
     }
     last
 }
 
-// Numbers are lowered, on and back, until no arrow lowers one.
-fn fall(chart: &[u8], n: usize, m: usize, go: &[u8], hints: &mut [usize; 256], numbers: &mut [u32])
+// The least fixpoint: numbers are lowered, on and back, until no arrow lowers one.
+pub fn least(chart: &[u8], n: usize, m: usize, go: &[u8], numbers: &mut [u32])
     requires { ⌜ Lent (now chart) n m (now go) (now numbers) ⌝ }
     ensures { λ _. ⌜ now (numbers .exit) ≡
         lowered (chartOf (now (chart .entry)) .arrows) n (flag (now (go .entry))) (now (numbers .entry)) ⌝ }
 {
     let mut back = false;
     loop {
-        if sweep(Change::Lower, back, chart, n, m, go, hints, numbers) == 0 {
+        if sweep(Change::Lower, back, chart, n, m, go, numbers) == 0 {
             return;
         }
         back = !back;
     }
-}
-
-// The least fixpoint.
-pub fn least(chart: &[u8], n: usize, m: usize, go: &[u8], numbers: &mut [u32])
-    requires { ⌜ Lent (now chart) n m (now go) (now numbers) ⌝ }
-    ensures { λ _. ⌜ now (numbers .exit) ≡
-        lowered (chartOf (now (chart .entry)) .arrows) n (flag (now (go .entry))) (now (numbers .entry)) ⌝ }
-{
-    let mut hints = [2048; 256];
-    fall(chart, n, m, go, &mut hints, numbers);
 }
 
 // How many arrows a loop may have, and the cap.
@@ -246,50 +226,34 @@ struct Reach {
 }
 
 // The number of state r goes to the cap, if the hints lead round from there and time passes.
-fn leap(
-    reach: Reach,
-    chart: &[u8],
-    n: usize,
-    m: usize,
-    hints: &[usize; 256],
-    go: &[u8],
-    r: usize,
-    numbers: &mut [u32],
-)
-    requires { ⌜ Lent (now chart) n m (now go) (now numbers) × (r < n) ⌝ }
+fn leap(reach: Reach, chart: &[u8], n: usize, m: usize, go: &[u8], r: usize, numbers: &mut [u32])
+    requires { ⌜ Lent (now chart) n m (now go) (values (now numbers)) × (reach .cap ≤ highest) × (r < n) ⌝ }
     ensures { λ _. ⌜ Leapt (chartOf (now (chart .entry))) (flag (now (go .entry))) n (reach .cap)
-        (now (numbers .entry)) (now (numbers .exit)) ⌝ }
+        (values (now (numbers .entry))) (values (now (numbers .exit))) ⌝ }
 {
-    let v = numbers[r];
+    let x = numbers[r];
+    let v = hints::value(x);
     if v == 0 {
         return;
     }
     if reach.cap <= v {
         return;
     }
-    if !hints::circles(chart, n, m, reach.most, hints, go, r) {
+    if !hints::circles(chart, n, m, reach.most, numbers, go, r) {
         return;
     }
-    numbers[r] = reach.cap;
+    numbers[r] = hints::revalued(x, reach.cap);
 }
 
 // The same of every state.
-fn leap_everywhere(
-    reach: Reach,
-    chart: &[u8],
-    n: usize,
-    m: usize,
-    hints: &[usize; 256],
-    go: &[u8],
-    numbers: &mut [u32],
-)
-    requires { ⌜ Lent (now chart) n m (now go) (now numbers) × (reach .cap ≤ highest) ⌝ }
+fn leap_everywhere(reach: Reach, chart: &[u8], n: usize, m: usize, go: &[u8], numbers: &mut [u32])
+    requires { ⌜ Lent (now chart) n m (now go) (values (now numbers)) × (reach .cap ≤ highest) ⌝ }
     ensures { λ _. ⌜ Leapt (chartOf (now (chart .entry))) (flag (now (go .entry))) n (reach .cap)
-        (now (numbers .entry)) (now (numbers .exit)) ⌝ }
+        (values (now (numbers .entry))) (values (now (numbers .exit))) ⌝ }
 {
     let mut r = 0;
     while r < n {
-        leap(reach, chart, n, m, hints, go, r, numbers);
+        leap(reach, chart, n, m, go, r, numbers);
         r += 1;
     }
 }
@@ -313,33 +277,24 @@ fn leaps(
     chart: &[u8],
     n: usize,
     m: usize,
-    hints: &[usize; 256],
     go: &[u8],
     last: usize,
     numbers: &mut [u32],
 )
-    requires { ⌜ Lent (now chart) n m (now go) (now numbers) × (reach .cap ≤ highest) × (last < n) ⌝ }
+    requires { ⌜ Lent (now chart) n m (now go) (values (now numbers)) × (reach .cap ≤ highest) × (last < n) ⌝ }
     ensures { λ _. ⌜ Leapt (chartOf (now (chart .entry))) (flag (now (go .entry))) n (reach .cap)
-        (now (numbers .entry)) (now (numbers .exit)) ⌝ }
+        (values (now (numbers .entry))) (values (now (numbers .exit))) ⌝ }
 {
     let far = Reach {
         most: n,
         cap: reach.cap,
     };
-    leap(
-        far,
-        chart,
-        n,
-        m,
-        hints,
-        go,
-        hints::follow(chart, n, m, hints, last),
-        numbers,
-    );
+    let r = hints::follow(chart, n, m, numbers, last);
+    leap(far, chart, n, m, go, r, numbers);
     if !due(reach.most, n) {
         return;
     }
-    leap_everywhere(reach, chart, n, m, hints, go, numbers);
+    leap_everywhere(reach, chart, n, m, go, numbers);
 }
 
 // One more than the sweeps done, up to n.
@@ -355,20 +310,11 @@ fn counted(done: usize, n: usize) -> usize
 
 // Numbers are raised, on and back, until no arrow raises one. What goes round a loop in which time passes rises without
 // end, and so does what rises after n sweeps.
-fn rise(
-    chart: &[u8],
-    n: usize,
-    m: usize,
-    ticks: bool,
-    cap: u32,
-    go: &[u8],
-    hints: &mut [usize; 256],
-    numbers: &mut [u32],
-)
-    requires { ⌜ Lent (now chart) n m (now go) (now numbers) × (cap ≤ highest) ⌝ }
-    ensures { λ _. ⌜ now (numbers .exit) ≡
+fn rise(chart: &[u8], n: usize, m: usize, ticks: bool, cap: u32, go: &[u8], numbers: &mut [u32])
+    requires { ⌜ Lent (now chart) n m (now go) (values (now numbers)) × (cap ≤ highest) ⌝ }
+    ensures { λ _. ⌜ values (now (numbers .exit)) ≡
         raised (weighed ticks (chartOf (now (chart .entry)) .arrows)) n cap (flag (now (go .entry)))
-        (now (numbers .entry)) ⌝ }
+        (values (now (numbers .entry))) ⌝ }
 {
     let mut back = false;
     let mut done = 0;
@@ -378,12 +324,12 @@ fn rise(
             leap: n <= done,
             cap,
         };
-        let last = sweep(Change::Raise(climb), back, chart, n, m, go, hints, numbers);
+        let last = sweep(Change::Raise(climb), back, chart, n, m, go, numbers);
         if last == 0 {
             return;
         }
         let reach = Reach { most: done, cap };
-        leaps(reach, chart, n, m, hints, go, last - 1, numbers);
+        leaps(reach, chart, n, m, go, last - 1, numbers);
         back = !back;
         done = counted(done, n);
     }
@@ -404,6 +350,6 @@ pub fn greatest(
         raised (weighed ticks (chartOf (now (chart .entry)) .arrows)) n cap (flag (now (go .entry)))
         (now (numbers .entry)) ⌝ }
 {
-    let mut hints = [2048; 256];
-    rise(chart, n, m, ticks, cap, go, &mut hints, numbers);
+    rise(chart, n, m, ticks, cap, go, numbers);
+    hints::bare(numbers);
 }

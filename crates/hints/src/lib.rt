@@ -1,5 +1,6 @@
-// Hints: for each state an arrow that it may leave by, 2,048 for none. Nobody takes them on trust: what is found by
-// them is tested.
+// Hints: for each state an arrow that it may leave by. It is kept above the value in the state's number, as 131,072
+// times one more than the arrow; a number below that has none. Nobody takes hints on trust: what is found by them is
+// tested.
 ghost use mathlib.Core.Path.{_≡_};
 ghost use mathlib.Core.Bool.{true, cond};
 ghost use Prim.Native.Nat.{_<_};
@@ -9,16 +10,59 @@ ghost use Rattle.model.specs.Marks.{flag};
 ghost use Rattle.chart.specs.Bytes.{chartOf};
 ghost use Rattle.chart.specs.Shape.{Passed};
 ghost use Rattle.hints.specs.Circle.{Circles};
+ghost use Rattle.hints.specs.Values.{valueOf, values};
+
+// The value of the number x.
+pub fn value(x: u32) -> u32
+    ensures { λ r. ⌜ r ≡ valueOf x ⌝ }
+{
+    x % 131072
+}
+
+// The value v with the hint of arrow i.
+pub fn hinted(v: u32, i: usize) -> u32
+    requires { ⌜ (v < 131072) × (i < 2048) ⌝ }
+    ensures { λ r. ⌜ valueOf r ≡ v ⌝ }
+{
+    (i as u32 + 1) * 131072 + v
+}
+
+// The value v with the hint of the number x.
+pub fn revalued(x: u32, v: u32) -> u32
+    requires { ⌜ v < 131072 ⌝ }
+    ensures { λ r. ⌜ valueOf r ≡ v ⌝ }
+{
+    x - x % 131072 + v
+}
+
+// The hints are taken off.
+pub fn bare(numbers: &mut [u32])
+    ensures { λ _. ⌜ now (numbers .exit) ≡ values (now (numbers .entry)) ⌝ }
+{
+    let mut s = 0;
+    while s < numbers.len() {
+        numbers[s] = value(numbers[s]);
+        s += 1;
+    }
+}
+
+// The hint of the number x: an arrow, or 2,048.
+fn hint_of(x: u32) -> usize {
+    if x < 131072 {
+        return 2048;
+    }
+    (x / 131072 - 1) as usize
+}
 
 // The state that n arrows lead to, one after the other as the hints say, or fewer where there is no hint.
-pub fn follow(chart: &[u8], n: usize, m: usize, hints: &[usize; 256], from: usize) -> usize
-    requires { ⌜ Passed (now chart) n m × (from < n) ⌝ }
+pub fn follow(chart: &[u8], n: usize, m: usize, numbers: &[u32], from: usize) -> usize
+    requires { ⌜ Passed (now chart) n m × (length (now numbers) ≡ n) × (from < n) ⌝ }
     ensures { λ r. ⌜ r < n ⌝ }
 {
     let mut at = from;
     let mut k = 0;
     while k < n {
-        let i = hints[at];
+        let i = hint_of(numbers[at]);
         if m <= i {
             return at;
         }
@@ -46,18 +90,18 @@ pub fn circles(
     n: usize,
     m: usize,
     most: usize,
-    hints: &[usize; 256],
+    numbers: &[u32],
     go: &[u8],
     r: usize,
 ) -> bool
-    requires { ⌜ Passed (now chart) n m × (length (now go) ≡ n) × (r < n) ⌝ }
+    requires { ⌜ Passed (now chart) n m × (length (now numbers) ≡ n) × (length (now go) ≡ n) × (r < n) ⌝ }
     ensures { λ b. ⌜ Circles b (chartOf (now (chart .entry))) (flag (now (go .entry))) r ⌝ }
 {
     let mut at = r;
     let mut passes = false;
     let mut k = 0;
     while k < most {
-        let i = hints[at];
+        let i = hint_of(numbers[at]);
         if m <= i {
             return false;
         }

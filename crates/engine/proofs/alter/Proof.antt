@@ -7,13 +7,18 @@ enum-told : tie.Need-enum-told
 enum-told c = search needs
 
 lower-requires : tie.Need-lower-requires
-lower-requires c κs = search needs
+lower-requires c κs =
+    let told = c .before in
+    rw (told .enum-told .given .1) at (told .before .before .before .before .pre .0)
 
 enum-known-change : tie.Need-enum-known-change
 enum-known-change c = search needs
 
 raise-requires : tie.Need-raise-requires
-raise-requires c κs = search needs
+raise-requires c κs =
+    let told = c .before .before in
+    let p = told .before .before .before .before .pre in
+    (rw (told .change .given .1) at (p .0), rw (told .change .given .1) at (p .1), p .2)
 
 same-length : tie.Need-same-length
 same-length c = search needs

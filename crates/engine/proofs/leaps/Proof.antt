@@ -1,11 +1,16 @@
 -- A leap where the hints lead, then leaps everywhere.
+use denote.Ref.{now}
+use Rattle.engine.proofs.Limits.{lent-length}
 use Rattle.engine.proofs.Leapt.{leapt-both, leapt-lent}
 use borrow.Author.Needs.{needs}
 use Rattle.engine.proofs.leaps.Statement.{statement}
 use Rattle.engine.proofs.leaps.Tie as tie
 
 follow-requires : tie.Need-follow-requires
-follow-requires c κs = search needs
+follow-requires c κs =
+    let start = c .before .before .before .before in
+    let lent = start .pre .0 in
+    (lent .passed, lent-length (now (start .args .numbers)) lent, start .pre .2)
 
 leap-requires : tie.Need-leap-requires
 leap-requires c κs = search needs
@@ -22,7 +27,7 @@ returns c = search needs
 leap-everywhere-requires : tie.Need-leap-everywhere-requires
 leap-everywhere-requires c κs =
     let leapt = c .before .before .before .before .before in
-    let p = leapt .before .before .before .before .before .before .pre in
+    let p = leapt .before .before .before .before .before .before .before .pre in
     (leapt-lent (p .1) (p .0) (leapt .leap .ensures), p .1)
 
 same-length-2 : tie.Need-same-length-2

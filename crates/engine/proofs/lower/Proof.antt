@@ -18,7 +18,7 @@ slice-read-barred c = search needs
 add-barred : tie.Need-add-barred
 add-barred c =
     let start = c .before .before .before .before .before in
-    omega (arith, start .pre .small .fewest, start .pre .capped (start .args .a .end))
+    omega (arith, start .pre .slot .fewest, start .pre .capped (start .args .a .end))
 
 barred-requires : tie.Need-barred-requires
 barred-requires c κs = search needs

@@ -8,12 +8,12 @@ use Rattle.engine.proofs.weight_of.Statement.{statement}
 use Rattle.engine.proofs.weight_of.Tie as tie
 
 returns : tie.Need-returns
-returns c = (rw (c .before .if1 .taken, c .if2 .taken), omega arith)
+returns c = (rw (c .before .if1 .taken, c .if2 .taken), λ e. omega arith)
 
 returns-2 : tie.Need-returns-2
 returns-2 c =
     let tick-one = most-elim (λ m. upTo 1 ≡ tick m) refl (λ k. refl) _ (c .if2 .left) in
-    (rw (c .before .if1 .taken) tick-one, omega arith)
+    (rw (c .before .if1 .taken) tick-one, λ e. omega arith)
 
 returns-3 : tie.Need-returns-3
 returns-3 c = (rw (c .if1 .left), c .before .pre)

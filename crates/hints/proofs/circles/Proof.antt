@@ -4,7 +4,6 @@ use mathlib.Core.Bool.{false≢true}
 use mathlib.Core.List.{List·Memᴰ}
 use Prim.Native.Nat.{_≤_, _<_, _-_}
 use native.Mathlib.Omega.{arith}
-use lib.ListN.{getD}
 use borrow.Author.Tests.{eq-eqb}
 use denote.Ref.{now}
 use Rattle.chart.proofs.Arrow.{arrow-inside}
@@ -17,40 +16,38 @@ use Rattle.hints.proofs.circles.Statement.{statement}
 use Rattle.hints.proofs.circles.Tie as tie
 
 abbrev Inv-loop : tie.InvT-loop
-Inv-loop chart n m most hints go r at₀ passes₀ k₀ at passes k =
+Inv-loop chart n m most numbers go r at₀ passes₀ k₀ at passes k =
     (k ≤ most) × (at < n) × Led (chartOf chart) (flag go) r at passes
 
 abbrev μ-loop : tie.MeasureT-loop
-μ-loop chart n m most hints go r at₀ passes₀ k₀ at passes k = most - k
+μ-loop chart n m most numbers go r at₀ passes₀ k₀ at passes k = most - k
 
 loop-holds : tie.Need-loop-holds Inv-loop μ-loop
-loop-holds c = (omega arith, c .before .before .pre .2, led-none)
+loop-holds c = (omega arith, c .before .before .before .pre .3, led-none)
 
-mul-i : tie.Need-mul-i Inv-loop μ-loop
-mul-i c =
-    let at-loop = c .before in
-    let start = at-loop .before .before .before in
-    omega (arith, at-loop .loop .inv .1, shaped (start .pre .0) .few-states)
+mul-hint-of : tie.Need-mul-hint-of Inv-loop μ-loop
+mul-hint-of c = omega arith
 
-element-copy-out-i : tie.Need-element-copy-out-i Inv-loop μ-loop
-element-copy-out-i c =
-    let at-loop = c .before in
-    let start = at-loop .before .before .before in
-    omega (arith, at-loop .loop .inv .1, shaped (start .pre .0) .few-states)
+shared-slice-read-hint-of : tie.Need-shared-slice-read-hint-of Inv-loop μ-loop
+shared-slice-read-hint-of c = omega arith
+
+hint-of-requires : tie.Need-hint-of-requires Inv-loop μ-loop
+hint-of-requires c κs = tt
 
 returns : tie.Need-returns Inv-loop μ-loop
 returns c = λ e. absurd (false≢true e)
 
 arrow-at-requires : tie.Need-arrow-at-requires Inv-loop μ-loop
-arrow-at-requires c κs = arrow-inside (shaped (c .before .before .before .before .before .before .pre .0)) (c .if1 .left)
+arrow-at-requires c κs =
+    arrow-inside (shaped (c .before .before .before .before .before .before .before .before .pre .0)) (c .if1 .left)
 
 returns-2 : tie.Need-returns-2 Inv-loop μ-loop
 returns-2 c = λ e. absurd (false≢true e)
 
 shared-slice-read-if3 : tie.Need-shared-slice-read-if3 Inv-loop μ-loop
 shared-slice-read-if3 c =
-    let at-loop = c .before .before .before .before .before .before .before in
-    omega (arith, at-loop .loop .inv .1, at-loop .before .before .before .pre .1)
+    let at-loop = c .before .before .before .before .before .before .before .before in
+    omega (arith, at-loop .loop .inv .1, at-loop .before .before .before .before .pre .2)
 
 returns-3 : tie.Need-returns-3 Inv-loop μ-loop
 returns-3 c = λ e. absurd (false≢true e)
@@ -62,7 +59,7 @@ either-requires c κs = tt
 more :
     (c : tie.After-either Inv-loop μ-loop) →
     let read = c .before .before .before .before .before in
-    let start = read .before .before .before .before .before .before .before in
+    let start = read .before .before .before .before .before .before .before .before .before in
     (read .arrow-at .result .end < start .args .n) ×
     Led (chartOf (now (start .args .chart))) (flag (now (start .args .go))) (start .args .r)
     (read .arrow-at .result .end) (c .either .result)
@@ -70,10 +67,11 @@ more c =
     let marked = c .before in
     let left = marked .before .before in
     let read = left .before .before in
-    let at-loop = read .before .before .before .before in
-    let start = at-loop .before .before .before in
+    let hint = read .before .before in
+    let at-loop = hint .before .before .before in
+    let start = at-loop .before .before .before .before in
     let chart = now (start .args .chart) in
-    let i = getD (now (start .args .hints)) (at-loop .loop .at) 0 in
+    let i = hint .hint-of .result in
     let w = read .arrow-at .result in
     let e = read .arrow-at .ensures .0 in
     let l : i < arrowCount chart = omega (arith, read .before .if1 .left, start .pre .0 .arrows) in
@@ -104,8 +102,9 @@ circles-spec =
     Inv-loop
     μ-loop
     loop-holds
-    mul-i
-    element-copy-out-i
+    mul-hint-of
+    shared-slice-read-hint-of
+    hint-of-requires
     returns
     arrow-at-requires
     returns-2

@@ -8,31 +8,29 @@ use Rattle.hints.proofs.follow.Statement.{statement}
 use Rattle.hints.proofs.follow.Tie as tie
 
 abbrev Inv-loop : tie.InvT-loop
-Inv-loop chart n m hints from at₀ k₀ at k = (k ≤ n) × (at < n)
+Inv-loop chart n m numbers from at₀ k₀ at k = (k ≤ n) × (at < n)
 
 abbrev μ-loop : tie.MeasureT-loop
-μ-loop chart n m hints from at₀ k₀ at k = n - k
+μ-loop chart n m numbers from at₀ k₀ at k = n - k
 
 loop-holds : tie.Need-loop-holds Inv-loop μ-loop
-loop-holds c = (omega arith, c .before .pre .1)
+loop-holds c = (omega arith, c .before .before .pre .2)
 
-mul-i : tie.Need-mul-i Inv-loop μ-loop
-mul-i c =
-    let at-loop = c .before in
-    let start = at-loop .before .before in
-    omega (arith, at-loop .loop .inv .1, shaped (start .pre .0) .few-states)
+mul-hint-of : tie.Need-mul-hint-of Inv-loop μ-loop
+mul-hint-of c = omega arith
 
-element-copy-out-i : tie.Need-element-copy-out-i Inv-loop μ-loop
-element-copy-out-i c =
-    let at-loop = c .before in
-    let start = at-loop .before .before in
-    omega (arith, at-loop .loop .inv .1, shaped (start .pre .0) .few-states)
+shared-slice-read-hint-of : tie.Need-shared-slice-read-hint-of Inv-loop μ-loop
+shared-slice-read-hint-of c = omega arith
+
+hint-of-requires : tie.Need-hint-of-requires Inv-loop μ-loop
+hint-of-requires c κs = tt
 
 returns : tie.Need-returns Inv-loop μ-loop
-returns c = c .before .before .before .loop .inv .1
+returns c = c .before .before .before .before .loop .inv .1
 
 arrow-at-requires : tie.Need-arrow-at-requires Inv-loop μ-loop
-arrow-at-requires c κs = arrow-inside (shaped (c .before .before .before .before .before .pre .0)) (c .if1 .left)
+arrow-at-requires c κs =
+    arrow-inside (shaped (c .before .before .before .before .before .before .before .pre .0)) (c .if1 .left)
 
 add-k : tie.Need-add-k Inv-loop μ-loop
 add-k c = omega arith
@@ -43,7 +41,7 @@ loop-less c = omega arith
 loop-again : tie.Need-loop-again Inv-loop μ-loop
 loop-again c =
     let read = c .before in
-    let p = read .before .before .before .before .before .pre .0 in
+    let p = read .before .before .before .before .before .before .before .pre .0 in
     let e = arrow-ends p _ (read .if1 .left) .1 in
     (omega arith, omega (arith, e, ap (λ w. w .end) (c .arrow-at .ensures .0)))
 
@@ -57,8 +55,9 @@ follow-spec =
     Inv-loop
     μ-loop
     loop-holds
-    mul-i
-    element-copy-out-i
+    mul-hint-of
+    shared-slice-read-hint-of
+    hint-of-requires
     returns
     arrow-at-requires
     add-k
