@@ -11,7 +11,7 @@ use Rattle.tctl.specs.Accepted.{Accepted}
 use Rattle.outcome.proofs.Place.{equal-none, inside-none}
 use Rattle.outcome.specs.Met.{Unmet, end}
 use Rattle.outcome.proofs.Unmet.{unmet-more, unmet-append-iff}
-use Rattle.outcome.proofs.Lowest.{below-none, offender-found}
+use Rattle.outcome.proofs.Lowest.{lowest-none, offender-found}
 use Rattle.head.specs.Head.{headRows, Headed}
 use Rattle.head.proofs.Passed.{head-iff}
 use Rattle.chart.specs.Bytes.{stateCount, arrowCount, arrowWords, chartOf}
@@ -39,9 +39,9 @@ formed-unmet s ok =
     let four = inside-none 1 256 n (h .some-states) (h .few-states) in
     let five = inside-none 1 2048 m (h .some-arrows) (h .few-arrows) in
     let six = equal-none (h .whole) in
-    let seven = below-none (λ i. namesNoState n (w i)) m (λ i l. names-states n (w i) (ok .ends i l)) in
-    let eight = below-none (λ i. emptySlot (w i)) m (ok .slots) in
-    let nine = below-none (λ v. not (leftBy s m v)) n (λ v l. ap not (ok .left v l)) in
+    let seven = lowest-none (λ i. namesNoState n (w i)) m (λ i l. names-states n (w i) (ok .ends i l)) in
+    let eight = lowest-none (λ i. emptySlot (w i)) m (ok .slots) in
+    let nine = lowest-none (λ v. not (leftBy s m v)) n (λ v l. ap not (ok .left v l)) in
     let body = unmet-more seven (unmet-more eight (unmet-more nine end)) in
     let rest = unmet-more four (unmet-more five (unmet-more six body)) in
     unmet-append-iff (headRows 1 9 s) _ .1 (head-iff 1 9 s .1 (ok .head), rest)

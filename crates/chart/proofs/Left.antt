@@ -35,5 +35,7 @@ module _ (s : List ℕ) where
     where
       turn : Dec (v ≡ u) → getD (set flags u true) v false ≡ leftBy s (suc i) v
       turn (yes d) =
-          ap (λ x. getD (set flags u true) x false) d ∙ getD-set-same flags u true false l ∙ sym (left-here i v (e ∙ sym d))
+          ap (λ x. getD (set flags u true) x false) d ∙
+          getD-set-same flags u true false l ∙
+          sym (left-here i v (e ∙ sym d))
       turn (no d) = getD-set-other flags u v true false d ∙ f v k ∙ sym (left-other i v (λ g. d (sym g ∙ e)))

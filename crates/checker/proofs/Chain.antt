@@ -98,7 +98,7 @@ module _ (chart rule marks scratch : List ℕ) where
     λ h. unmet-more (ap whole (le-ltb _ _ (h .0))) (unmet-more (ap whole (le-ltb _ _ (h .1))) end),
   )
 
-  pub admitted : Unmet inputs → Admitted chart rule marks scratch
+  admitted : Unmet inputs → Admitted chart rule marks scratch
   unfolding chartTable ruleTable
   admitted u =
       let parts = input-iff .0 u in
@@ -135,6 +135,7 @@ unfolding first
 alone n none = inl refl
 alone n (some i) = inr refl
 
-pub loop-number : (chart : List ℕ) → (first (loopRow chart ∷ []) .number ≡ 0) ⊎ (first (loopRow chart ∷ []) .number ≡ 19)
+pub loop-number :
+    (chart : List ℕ) → (first (loopRow chart ∷ []) .number ≡ 0) ⊎ (first (loopRow chart ∷ []) .number ≡ 19)
 unfolding loopRow
 loop-number chart = alone 19 _

@@ -21,7 +21,8 @@ use Rattle.checker.specs.Check.{marksOf, Tells}
 
 -- a new front as long as the old one keeps the length, and past it the old list stands
 pub front-size :
-    (front old : List ℕ) (size : ℕ) → length front ≡ size → size ≤ length old → length (front ++ drop size old) ≡ length old
+    (front old : List ℕ) (size : ℕ) → length front ≡ size → size ≤ length old →
+    length (front ++ drop size old) ≡ length old
 front-size front old size e l = omega (arith, length-append front (drop size old), length-drop size old)
 
 pub past-front :

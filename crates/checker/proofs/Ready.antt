@@ -47,5 +47,7 @@ module _ {chart : List ℕ} {n m : ℕ} {rule : List ℕ} {k : ℕ} {marks numbe
         rows = λ _ t l.
             let visited = once (accepted rule (r .unrefused)) t l in
             x .done t (subst (λ i. 0 < visits rule i t) (ap (λ i. i - 1) (sym (r .nodes))) (omega (arith, visited)));
-        rest = λ j h. x .after j (subst (λ i. i ≤ j) (ap (λ i. i * n) (sym (r .nodes)) ∙ sym (last-row k n some-nodes)) h);
+        rest = λ j h.
+            let ends = ap (λ i. i * n) (sym (r .nodes)) ∙ sym (last-row k n some-nodes) in
+            x .after j (subst (λ i. i ≤ j) ends h);
       }

@@ -12,7 +12,8 @@ zeros-are zs h =
     ext-getD 0 zs (replicate (length zs) 0) (sym (length-replicate (length zs) 0))
     (λ i l. h i ∙ sym (getD-replicate (length zs) i 0 0 l))
 
-module _ (n size : ℕ) (scratch used : List ℕ) (are : length used ≡ n) (more : n ≤ size) (room : size ≤ length scratch) where
+module _ (n size : ℕ) (scratch used : List ℕ)
+    (are : length used ≡ n) (more : n ≤ size) (room : size ≤ length scratch) where
   -- what lies past the numbers that are cleared was not used
   unused : drop size (used ++ drop n scratch) ≡ drop size scratch
   unused =

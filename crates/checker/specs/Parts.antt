@@ -27,7 +27,7 @@ pub record Ready (chart : List ℕ) (n m : ℕ) (rule : List ℕ) (k : ℕ) (mar
   pub table : k * n ≤ length marks
   pub size : length numbers ≡ n
 
--- row 19 was tested: the marks are as they were if it is met, else each row holds its node's marks, and the rest is kept
+-- row 19 was tested: the marks are as they were if it is met, else each row holds its node's marks and the rest is kept
 pub record Judged (chart : List ℕ) (n : ℕ) (rule : List ℕ) (r : Outcome) (old new : List ℕ) : Type 0 where
   pub answer : r ≡ first (loopRow chart ∷ [])
   pub refused : ¬ (r .number ≡ 0) → new ≡ old

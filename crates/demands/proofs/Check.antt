@@ -46,7 +46,8 @@ module _ (chart rule marks scratch : List ℕ) where
       Iff·trans (success-iff (checkTable chart rule marks scratch) (check-numbered chart rule marks scratch))
       (Iff·trans (check-iff chart rule marks scratch) (there, back))
     where
-      there : Unmet (inputTable chart rule marks scratch) × Unmet (loopRow chart ∷ []) → Acceptable chart rule marks scratch
+      there :
+          Unmet (inputTable chart rule marks scratch) × Unmet (loopRow chart ∷ []) → Acceptable chart rule marks scratch
       there u =
           let parts = input-iff chart rule marks scratch .0 (u .0) in
           let room = room-iff chart rule marks scratch .0 (parts .1) in
@@ -57,7 +58,8 @@ module _ (chart rule marks scratch : List ℕ) where
             room = room .1;
           }
 
-      back : Acceptable chart rule marks scratch → Unmet (inputTable chart rule marks scratch) × Unmet (loopRow chart ∷ [])
+      back :
+          Acceptable chart rule marks scratch → Unmet (inputTable chart rule marks scratch) × Unmet (loopRow chart ∷ [])
       back a =
           let charts = chart-iff chart .1 (a .chart-accepted) in
           let room = room-iff chart rule marks scratch .1 (a .table, a .room) in

@@ -38,9 +38,9 @@ marked-iff chart rule newMarks ok a s l =
     let tells = a .checked .meaning (a .accepted) (nodeCount rule - 1) s (omega arith) l .yes in
     (tells .1, tells .0)
 
--- Map check accepts where the premises hold: the detail's chart is drawn, and is a detail of the overview's by the map's
--- entries. Along these each formula of a kind carries; of the rule no more is needed for this than its formula. The bytes
--- of either chart tell where the formula holds, so what carries for the meaning carries for them.
+-- Map check accepts where the premises hold: the detail's chart is drawn, and is a detail of the overview's by the
+-- map's entries. Along these each formula of a kind carries; of the rule no more is needed for this than its formula.
+-- The bytes of either chart tell where the formula holds, so what carries for the meaning carries for them.
 pub detail-rule : ThirdDemand
 detail-rule d o p r mapped passed = record { meaning = meaning; bytes = bytes }
   where

@@ -3,16 +3,16 @@ use mathlib.Core.Path.{_≡_}
 use mathlib.Core.Logic.{_↔_, Iff·rfl, Iff·symm, Iff·trans, Iff·and}
 use mathlib.Core.List.{List, _++_}
 use Prim.Native.Nat.{ℕ}
-use Rattle.outcome.specs.Refusal.{success, shifted}
+use Rattle.outcome.specs.Refusal.{success}
 use Rattle.outcome.specs.Met.{Unmet}
 use Rattle.outcome.proofs.First.{Numbered, success-iff}
 use Rattle.outcome.proofs.Unmet.{unmet-append-iff}
-use Rattle.outcome.proofs.Shift.{shift-unmet-iff}
 use Rattle.chart.specs.Refusals.{chartTable}
 use Rattle.loops.specs.Refusal.{loopRow, acceptedTable}
 use Rattle.loops.proofs.Accepted.{unmet-iff}
-use Rattle.detail.specs.Refusals.{mapTable, mapCheckTable, mapRefusal}
+use Rattle.detail.specs.Refusals.{overviewTable, mapTable, mapCheckTable, mapRefusal}
 use Rattle.detail.proofs.Under.{map-iff}
+use Rattle.detail.proofs.Overview.{overview-iff}
 use Rattle.demands.specs.DetailRule.{Premises}
 
 module _ (d o p : List ℕ) where
@@ -26,9 +26,9 @@ module _ (d o p : List ℕ) where
   unfolding mapCheckTable
   parts-iff =
       let x = acceptedTable d in
-      let y = acceptedTable o in
-      let charts = Iff·trans (unmet-append-iff x (shifted 40 y)) (Iff·and Iff·rfl (shift-unmet-iff 40 y)) in
-      Iff·trans (unmet-append-iff (x ++ shifted 40 y) (mapTable d o p)) (Iff·and charts Iff·rfl)
+      let y = overviewTable o in
+      let charts = Iff·trans (unmet-append-iff x y) (Iff·and Iff·rfl (overview-iff o)) in
+      Iff·trans (unmet-append-iff (x ++ y) (mapTable d o p)) (Iff·and charts Iff·rfl)
 
   -- Part by part: the rows of each chart ask that it be accepted, those of the map its format and that it join the two.
   pub map-check-exact : (mapRefusal d o p ≡ success) ↔ Premises d o p

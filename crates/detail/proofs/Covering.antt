@@ -20,7 +20,7 @@ contains-iff noEnd m = (λ e. tt, λ h. refl)
 contains-iff (upTo k) (upTo m) = leb-iff m k
 contains-iff (upTo k) noEnd = (λ e. false≢true e, λ h. absurd h)
 
-pub covers-iff : (f : ℕ → ℕ) (a b : Arrow) → (covers (f (a .start)) (f (a .end)) a b ≡ true) ↔ Covers f a b
+covers-iff : (f : ℕ → ℕ) (a b : Arrow) → (covers (f (a .start)) (f (a .end)) a b ≡ true) ↔ Covers f a b
 covers-iff f a b =
     let ends = both-iff (eqb-iff (b .start) (f (a .start))) (eqb-iff (b .end) (f (a .end))) in
     let i = both-iff (both-iff ends (leb-iff (b .fewest) (a .fewest))) (contains-iff (b .most) (a .most)) in (

@@ -3,26 +3,22 @@ use mathlib.Core.Path.{_≡_, sym, ap, _∙_}
 use mathlib.Core.Bool.{Bool, true, false, not}
 use mathlib.Core.List.{List}
 use Prim.Native.Nat.{ℕ, _<_}
-use lib.Dec.{eqb}
 use borrow.Author.Tests.{eq-eqb, ne-eqb}
 use Rattle.tctl.specs.Chart.{Arrow}
 use Rattle.outcome.specs.Refusal.{found}
-use Rattle.outcome.proofs.Lowest.{below-none, offender-found}
+use Rattle.outcome.proofs.Lowest.{lowest-none, offender-found}
 use Rattle.chart.specs.declared.ArrowWords.{ArrowWords}
 use Rattle.chart.specs.Bytes.{labelWord, arrowCount, arrowWords, arrowOf}
 use Rattle.detail.specs.Bytes.{entry}
 use Rattle.detail.specs.Covered.{covers, covered, coveredAt}
+use Rattle.detail.specs.Refusals.{labelsDiffer}
 
 -- ── Row 22: the words x and y, read of state v and of the state it stands for ──
-
--- the labels differ, as a test
-abbrev pub differ : List ℕ → List ℕ → List ℕ → ℕ → Bool
-differ d o p v = not (eqb (labelWord d v) (labelWord o (entry p v)))
 
 -- what comparing the words tells of the labels
 pub labels-told :
     (d o p : List ℕ) (v : ℕ) {x y e : ℕ} → x ≡ labelWord d v → e ≡ entry p v → y ≡ labelWord o e →
-    (¬ (x ≡ y) → differ d o p v ≡ true) × (x ≡ y → differ d o p v ≡ false)
+    (¬ (x ≡ y) → labelsDiffer d o p v ≡ true) × (x ≡ y → labelsDiffer d o p v ≡ false)
 labels-told d o p v own is other = (
   λ h. ap not (ne-eqb _ _ (λ z. h (own ∙ z ∙ sym (other ∙ ap (labelWord o) is)))),
   λ z. ap not (eq-eqb _ _ (sym own ∙ z ∙ other ∙ ap (labelWord o) is)),
@@ -45,7 +41,7 @@ module _ (o : List ℕ) (from to : ℕ) (a : Arrow) where
   pub covered-not :
       ((j : ℕ) → j < arrowCount o → covers from to a (arrowOf (arrowWords o j)) ≡ false) → false ≡ covered o from to a
   unfolding covered
-  covered-not h = ap found (sym (below-none (λ j. covers from to a (arrowOf (arrowWords o j))) (arrowCount o) h))
+  covered-not h = ap found (sym (lowest-none (λ j. covers from to a (arrowOf (arrowWords o j))) (arrowCount o) h))
 
 -- the words w are read of arrow i, and the states of its ends of the map
 pub covered-read :

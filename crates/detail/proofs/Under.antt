@@ -7,7 +7,7 @@ use mathlib.Core.Option.{none}
 use Prim.Native.Nat.{ℕ, _<_}
 use native.Mathlib.Omega.{arith}
 use lib.ListN.{getD}
-use lib.Dec.{eqb, leb}
+use lib.Dec.{leb}
 use borrow.Author.Tests.{leb-false, lt-leb, not-false}
 use Rattle.truth.proofs.Compare.{not-differ-iff}
 use Rattle.tctl.specs.Chart.{Arrow, states}
@@ -15,12 +15,12 @@ use Rattle.tctl.specs.Detail.{Covers, Detail}
 use Rattle.outcome.specs.declared.Outcome.{Outcome}
 use Rattle.outcome.specs.Refusal.{first, success, lowest}
 use Rattle.outcome.proofs.First.{unmet-at}
-use Rattle.outcome.proofs.Lowest.{none-below, below-none}
+use Rattle.outcome.proofs.Lowest.{none-below, lowest-none}
 use Rattle.chart.specs.Bytes.{stateCount, arrowCount, labelWord, arrowWords, arrowOf, chartOf}
 use Rattle.chart.proofs.Chart.{states-of, label-of, arrow-mem, arrow-of}
 use Rattle.detail.specs.Bytes.{entry, MapFormat}
 use Rattle.detail.specs.Covered.{covered, coveredAt}
-use Rattle.detail.specs.Refusals.{mapTable}
+use Rattle.detail.specs.Refusals.{labelsDiffer, mapTable}
 use Rattle.detail.proofs.Format.{format-iff}
 use Rattle.detail.proofs.Covering.{covered-iff}
 
@@ -31,7 +31,7 @@ module _ (d o p : List ℕ) where
       (lowest q (stateCount d) ≡ none) ↔ ((v : ℕ) → v < states (chartOf d) → A v)
   states-iff q i = (
     λ e v l. let k : v < stateCount d = omega (arith, states-of d) in i v k .0 (none-below q (stateCount d) e v k),
-    λ h. below-none q (stateCount d) (λ v l. i v l .1 (h v (omega (arith, states-of d)))),
+    λ h. lowest-none q (stateCount d) (λ v l. i v l .1 (h v (omega (arith, states-of d)))),
   )
 
   -- each entry names a state of the overview
@@ -49,10 +49,10 @@ module _ (d o p : List ℕ) where
   -- row 22: where the entries name states, the label words of the bytes are those of the charts
   labels-iff :
       Inside →
-      (lowest (λ v. not (eqb (labelWord d v) (labelWord o (entry p v)))) (stateCount d) ≡ none) ↔
+      (lowest (labelsDiffer d o p) (stateCount d) ≡ none) ↔
       ((v : ℕ) → v < states (chartOf d) → getD (chartOf d .labels) v 0 ≡ getD (chartOf o .labels) (entry p v) 0)
   labels-iff h =
-      states-iff (λ v. not (eqb (labelWord d v) (labelWord o (entry p v)))) λ v l.
+      states-iff (labelsDiffer d o p) λ v l.
       let same = not-differ-iff (labelWord d v) (labelWord o (entry p v)) in
       let e = label-of d v l in
       let f = label-of o (entry p v) (omega (arith, h v (omega (arith, states-of d)), states-of o)) in
@@ -74,7 +74,7 @@ module _ (d o p : List ℕ) where
         let y = not-false _ (none-below uncovered (arrowCount d) e (x .0) (x .1)) in
         let e = ap (λ b. covered o (entry p (b .start)) (entry p (b .end)) b) (x .2) in
         covered-iff o (entry p) a .0 (e ∙ y),
-    λ h. below-none uncovered (arrowCount d) λ i l.
+    λ h. lowest-none uncovered (arrowCount d) λ i l.
         let a = arrowOf (arrowWords d i) in
         ap not (covered-iff o (entry p) a .1 (h a (arrow-mem d i l))),
   )

@@ -4,12 +4,11 @@ use mathlib.Core.Bool.{not}
 use mathlib.Core.List.{List, [], _∷_}
 use Prim.Native.Nat.{ℕ, _+_, _*_, _≤_, _<_}
 use lib.ListN.{length}
-use lib.Dec.{eqb, leb}
+use lib.Dec.{leb}
 use Rattle.outcome.specs.Refusal.{Row, refuse, whole, lowest}
-use Rattle.chart.specs.Bytes.{labelWord}
 use Rattle.detail.specs.Bytes.{entry}
 use Rattle.detail.specs.Covered.{coveredAt}
-use Rattle.detail.specs.Refusals.{noMap}
+use Rattle.detail.specs.Refusals.{noMap, labelsDiffer}
 
 -- row 20
 abbrev pub formRow : List ℕ → ℕ → Row
@@ -21,7 +20,7 @@ entryRow p n k = refuse 21 (lowest (λ v. leb k (entry p v)) n)
 
 -- row 22
 abbrev pub labelRow : List ℕ → List ℕ → List ℕ → ℕ → Row
-labelRow d o p n = refuse 22 (lowest (λ v. not (eqb (labelWord d v) (labelWord o (entry p v)))) n)
+labelRow d o p n = refuse 22 (lowest (labelsDiffer d o p) n)
 
 -- row 23
 abbrev pub coverRow : List ℕ → List ℕ → List ℕ → ℕ → Row

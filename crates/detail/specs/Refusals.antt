@@ -22,6 +22,10 @@ noMap p n =
     not (eqb (length p) (7 + 2 * entryCount p)) ||
     not (eqb (entryCount p) n)
 
+-- "labels differ": the word of state v and that of the state it stands for
+abbrev pub labelsDiffer : List ℕ → List ℕ → List ℕ → ℕ → Bool
+labelsDiffer d o p v = not (eqb (labelWord d v) (labelWord o (entry p v)))
+
 unfoldable pub mapTable : List ℕ → List ℕ → List ℕ → List Row
 mapTable d o p =
     let n = stateCount d in
@@ -31,15 +35,18 @@ mapTable d o p =
     -- map entry not an overview state
     refuse 21 (lowest (λ v. leb (stateCount o) (entry p v)) n) ∷
     -- labels differ
-    refuse 22 (lowest (λ v. not (eqb (labelWord d v) (labelWord o (entry p v)))) n) ∷
+    refuse 22 (lowest (labelsDiffer d o p) n) ∷
     -- arrow not covered
     refuse 23 (lowest (λ i. not (coveredAt d o p i)) m) ∷
     []
 
--- "Map check tests the detail chart (1 to 9, then 19), then the overview (the same plus 40: 41 to 49, 59; an empty
--- overview is 41), then 20 to 23."
+-- "the overview (the same plus 40: 41 to 49, 59; an empty overview is 41)"
+abbrev pub overviewTable : List ℕ → List Row
+overviewTable o = shifted 40 (acceptedTable o)
+
+-- "Map check tests the detail chart (1 to 9, then 19), then the overview .., then 20 to 23."
 unfoldable pub mapCheckTable : List ℕ → List ℕ → List ℕ → List Row
-mapCheckTable d o p = acceptedTable d ++ shifted 40 (acceptedTable o) ++ mapTable d o p
+mapCheckTable d o p = acceptedTable d ++ overviewTable o ++ mapTable d o p
 
 abbrev pub mapRefusal : List ℕ → List ℕ → List ℕ → Outcome
 mapRefusal d o p = first (mapCheckTable d o p)

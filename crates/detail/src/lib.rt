@@ -9,7 +9,7 @@ ghost use Rattle.chart.specs.Refusals.{chartRefusal};
 ghost use Rattle.chart.specs.Shape.{Passed};
 ghost use Rattle.detail.specs.Bytes.{entry};
 ghost use Rattle.detail.specs.Covered.{contains, covers, covered};
-ghost use Rattle.detail.specs.Refusals.{mapTable, mapRefusal};
+ghost use Rattle.detail.specs.Refusals.{mapTable, overviewTable, mapRefusal};
 ghost use Rattle.detail.specs.Parts.{formRow, entryRow, labelRow, coverRow, lastRows, mappedRows, Mapped};
 use chart::ArrowWords;
 use outcome::Outcome;
@@ -207,6 +207,17 @@ fn map_refusal(detail: &[u8], overview: &[u8], map: &[u8]) -> Outcome
     mapped_refusal(detail, n, m, overview, k, l, map)
 }
 
+// The overview's rows: a chart's own, their numbers 40 higher.
+fn overview_refusal(overview: &[u8]) -> Outcome
+    ensures { λ r. ⌜ r ≡ first (overviewTable (now (overview .entry))) ⌝ }
+{
+    let own = loops::accepted_refusal(overview);
+    if own.number != 0 {
+        return outcome::refused(own.number + 40, own.place);
+    }
+    outcome::accepted()
+}
+
 // Number and place of the first row of the table that is met.
 pub fn map_check(detail: &[u8], overview: &[u8], map: &[u8]) -> Outcome
     ensures { λ r. ⌜ r ≡ mapRefusal (now (detail .entry)) (now (overview .entry)) (now (map .entry)) ⌝ }
@@ -215,9 +226,9 @@ pub fn map_check(detail: &[u8], overview: &[u8], map: &[u8]) -> Outcome
     if lower.number != 0 {
         return lower;
     }
-    let upper = loops::accepted_refusal(overview);
+    let upper = overview_refusal(overview);
     if upper.number != 0 {
-        return outcome::refused(upper.number + 40, upper.place);
+        return upper;
     }
     map_refusal(detail, overview, map)
 }

@@ -5,7 +5,8 @@ ghost use Rattle.outcome.specs.Refusal.{first};
 ghost use Rattle.head.specs.Head.{headRows};
 use outcome::Outcome;
 
-// The first of three rows, from number on, that is met: under `least` bytes, version not 1, stated length not the real one.
+// The first of three rows, from number on, that is met: under `least` bytes, version not 1, stated length not the
+// real one.
 pub fn head_refusal(s: &[u8], least: usize, number: u32) -> Outcome
     requires { ⌜ (5 ≤ least) × (number ≤ 100) ⌝ }
     ensures { λ r. ⌜ r ≡ first (headRows number least (now (s .entry))) ⌝ }

@@ -27,10 +27,14 @@ module _ (s : List ℕ) {r : KindAnswer} (out : r .outcome ≡ ruleRefusal s) wh
   pub refused : (r .outcome .number ≡ 0 → ⊥) → r .kind ≡ Neither → Answered s r
   refused nonzero e =
       let h : ruleRefusal s .number ≡ 0 → ⊥ = λ z. nonzero (ap (λ o. o .number) out ∙ z) in
-      record { outcome = out; kind = λ k. ap (λ x. says x k) e ∙ sym (ap (λ b. b && isOf k (formulaOf s)) (ne-eqb _ _ h)) }
+      record {
+        outcome = out;
+        kind = λ k. ap (λ x. says x k) e ∙ sym (ap (λ b. b && isOf k (formulaOf s)) (ne-eqb _ _ h));
+      }
 
   pub answered :
-      {a b : Bool} → r .outcome .number ≡ 0 → a ≡ isOf allRuns (formulaOf s) → b ≡ isOf someRun (formulaOf s) → r .kind ≡ kindFor a b → Answered s r
+      {a b : Bool} → r .outcome .number ≡ 0 →
+      a ≡ isOf allRuns (formulaOf s) → b ≡ isOf someRun (formulaOf s) → r .kind ≡ kindFor a b → Answered s r
   answered {a} {b} z p q e =
       record { outcome = out; kind = kind }
     where
@@ -43,7 +47,8 @@ module _ (s : List ℕ) {r : KindAnswer} (out : r .outcome ≡ ruleRefusal s) wh
 
 -- of an accepted rule the answer is of the kinds of its formula
 pub kind-of-formula :
-    (s : List ℕ) {r : KindAnswer} → Answered s r → r .outcome .number ≡ 0 → (k : Runs) → says (r .kind) k ≡ isOf k (formulaOf s)
+    (s : List ℕ) {r : KindAnswer} → Answered s r → r .outcome .number ≡ 0 →
+    (k : Runs) → says (r .kind) k ≡ isOf k (formulaOf s)
 kind-of-formula s {r} h z k =
     let e : ruleRefusal s .number ≡ 0 = ap (λ o. o .number) (sym (h .outcome)) ∙ z in
     h .kind k ∙ ap (λ b. b && isOf k (formulaOf s)) (eq-eqb _ _ e)

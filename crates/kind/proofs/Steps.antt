@@ -1,4 +1,5 @@
--- The kind of a node's formula from those of its operands', for both kinds at once: the case of each return of the tests.
+-- The kind of a node's formula from those of its operands', for both kinds at once: a case for each return of the
+-- tests.
 use mathlib.Core.Path.{_≡_, refl, sym, ap, _∙_}
 use mathlib.Core.Bool.{Bool, true, false, _&&_}
 use mathlib.Core.List.{List}
@@ -35,7 +36,9 @@ module _ (k : Runs) (op : ℕ) (w : NodeWords) (at : ℕ → Formula) where
       turn allRuns = refl
       turn someRun = refl
 
-  both : 2 < op → op ≤ 6 → (op ≡ untilOf (other k) → ⊥) → isOf k (operation op w at) ≡ (isOf k (at (w .a)) && isOf k (at (w .b)))
+  both :
+      2 < op → op ≤ 6 → (op ≡ untilOf (other k) → ⊥) →
+      isOf k (operation op w at) ≡ (isOf k (at (w .a)) && isOf k (at (w .b)))
   both h l n = turn (ℕ-discrete op 3) (ℕ-discrete op 4) (ℕ-discrete op (untilOf k))
     where
       until : (k : Runs) → isOf k (operation (untilOf k) w at) ≡ (isOf k (at (w .a)) && isOf k (at (w .b)))

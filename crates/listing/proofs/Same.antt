@@ -4,7 +4,8 @@ use mathlib.Core.List.{List, [], _∷_, _++_}
 use Prim.Native.Nat.{ℕ, _+_, _*_, _<_}
 use native.Mathlib.Omega.{arith}
 use lib.ListN.{getD}
-use Rattle.listing.specs.Text.{statesWord, nodesWord, space, newline, decimal, mark, markLine, nodeLine, numbersLine, listing}
+use Rattle.listing.specs.Text.{statesWord, nodesWord, space, newline, decimal}
+use Rattle.listing.specs.Text.{mark, markLine, nodeLine, twoNumbers, listing}
 use Rattle.listing.proofs.Joined.{joined-same}
 use Rattle.listing.proofs.Rows.{row-inside}
 
@@ -19,5 +20,5 @@ module _ (n k : ℕ) (a b : List ℕ) (same : (i : ℕ) → i < k * n → getD a
   pub listing-same : listing n k a ≡ listing n k b
   unfolding listing
   listing-same =
-      ap (λ (s : List ℕ). numbersLine statesWord n nodesWord k ++ s)
+      ap (λ (s : List ℕ). twoNumbers statesWord n nodesWord k ++ newline ++ s)
       (joined-same k (nodeLine n a) (nodeLine n b) node-same)

@@ -3,7 +3,8 @@ use mathlib.Core.List.{List, [], _∷_, _++_}
 use Prim.Native.Nat.{ℕ, suc, _+_, _*_, _^_, _≤_, _<_}
 use native.Mathlib.Omega.{arith}
 use lib.ListN.{length, getD, length-append}
-use Rattle.listing.specs.Text.{statesWord, nodesWord, refusedWord, atWord, space, newline, decimal, joined, mark, markLine, nodeLine, numbersLine, listing, refusedLine}
+use Rattle.listing.specs.Text.{statesWord, nodesWord, refusedWord, atWord, space, newline}
+use Rattle.listing.specs.Text.{decimal, joined, mark, markLine, nodeLine, twoNumbers, listing, refusedLine}
 use Rattle.listing.specs.Piece.{Room}
 use Rattle.listing.proofs.Joined.{joined-size}
 use Rattle.listing.proofs.Decimal.{decimal-size}
@@ -28,8 +29,8 @@ node-size n t marks h l =
 
 numbers-size :
     (first second : List ℕ) (x y a b : ℕ) → x < 10 ^ suc a → y < 10 ^ suc b →
-    length (numbersLine first x second y) ≤ length first + suc a + length second + suc b + 1
-unfolding numbersLine
+    length (twoNumbers first x second y) ≤ length first + suc a + length second + suc b
+unfolding twoNumbers
 numbers-size first second x y a b h i =
     omega (
       arith,
@@ -38,7 +39,6 @@ numbers-size first second x y a b h i =
       length-append first (decimal x),
       length-append (first ++ decimal x) second,
       length-append (first ++ decimal x ++ second) (decimal y),
-      length-append (first ++ decimal x ++ second ++ decimal y) newline,
     )
 
 -- a first line of at most 20 bytes, and k lines of at most 260
@@ -46,10 +46,11 @@ pub listing-room :
     (n k : ℕ) (marks out : List ℕ) → n ≤ 256 → k ≤ 64 → 20 + 64 * 260 ≤ length out → Room 0 (listing n k marks) out
 unfolding listing
 listing-room n k marks out h i room =
-    let line = numbersLine statesWord n nodesWord k in
+    let counts = twoNumbers statesWord n nodesWord k in
     let lines = joined-size k 260 (nodeLine n marks) (λ t l. node-size n t marks h (omega arith)) in
     let first = numbers-size statesWord nodesWord n k 2 1 (omega arith) (omega arith) in
-    record { fits = omega (arith, room, first, lines, i, length-append line (joined k (nodeLine n marks))) }
+    let parts = length-append (counts ++ newline) (joined k (nodeLine n marks)) in
+    record { fits = omega (arith, room, first, lines, i, length-append counts newline, parts) }
 
 -- two numbers of at most ten digits
 pub refused-room :
@@ -57,4 +58,5 @@ pub refused-room :
     Room 0 (refusedLine number place) out
 unfolding refusedLine
 refused-room number place out h i room =
-    record { fits = omega (arith, room, numbers-size refusedWord atWord number place 9 9 (omega arith) (omega arith)) }
+    let numbers = numbers-size refusedWord atWord number place 9 9 (omega arith) (omega arith) in
+    record { fits = omega (arith, room, numbers, length-append (twoNumbers refusedWord number atWord place) newline) }

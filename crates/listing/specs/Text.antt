@@ -54,17 +54,17 @@ markLine n marks start = joined n (λ s. mark (getD marks (start + s) 0) ∷ [])
 unfoldable pub nodeLine : ℕ → List ℕ → ℕ → List ℕ
 nodeLine n marks t = decimal t ++ space ++ markLine n marks (t * n) ++ newline
 
--- a line of two numbers, each after its word
-unfoldable pub numbersLine : List ℕ → ℕ → List ℕ → ℕ → List ℕ
-numbersLine first x second y = first ++ decimal x ++ second ++ decimal y ++ newline
+-- two numbers, each after its word
+unfoldable pub twoNumbers : List ℕ → ℕ → List ℕ → ℕ → List ℕ
+twoNumbers first x second y = first ++ decimal x ++ second ++ decimal y
 
 -- "It prints "states n nodes k", then a line per node"
 unfoldable pub listing : ℕ → ℕ → List ℕ → List ℕ
-listing n k marks = numbersLine statesWord n nodesWord k ++ joined k (nodeLine n marks)
+listing n k marks = twoNumbers statesWord n nodesWord k ++ newline ++ joined k (nodeLine n marks)
 
 -- "A refusal is the one line "refused 9 at 2": number, then place."
 unfoldable pub refusedLine : ℕ → ℕ → List ℕ
-refusedLine number place = numbersLine refusedWord number atWord place
+refusedLine number place = twoNumbers refusedWord number atWord place ++ newline
 
 -- the first r bytes are the text, the others as they were
 pub record Shown (text : List ℕ) (r : ℕ) (old new : List ℕ) : Type 0 where

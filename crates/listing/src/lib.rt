@@ -3,7 +3,7 @@ ghost use mathlib.Core.Path.{_≡_};
 ghost use mathlib.Core.List.{[], _∷_};
 ghost use Prim.Native.Nat.{_+_, _*_, _%_, _≤_};
 ghost use lib.ListN.{length};
-ghost use Rattle.listing.specs.Text.{decimal, joined, markLine, nodeLine, numbersLine};
+ghost use Rattle.listing.specs.Text.{decimal, joined, markLine, nodeLine, twoNumbers};
 ghost use Rattle.listing.specs.Text.{listing, refusedLine, Shown};
 ghost use Rattle.listing.specs.Text.{mark as Text·mark};
 ghost use Rattle.listing.specs.Piece.{Room, Appended};
@@ -93,15 +93,14 @@ fn put_nodes(n: usize, k: usize, marks: &[u8], at: usize, out: &mut [u8]) -> usi
 }
 
 fn put_numbers(first: &[u8], x: usize, second: &[u8], y: usize, out: &mut [u8]) -> usize
-    requires { ⌜ Room 0 (numbersLine (now first) x (now second) y) (now out) ⌝ }
-    ensures { λ r. ⌜ Appended 0 (numbersLine (now (first .entry)) x (now (second .entry)) y) r
+    requires { ⌜ Room 0 (twoNumbers (now first) x (now second) y) (now out) ⌝ }
+    ensures { λ r. ⌜ Appended 0 (twoNumbers (now (first .entry)) x (now (second .entry)) y) r
         (now (out .entry)) (now (out .exit)) ⌝ }
 {
     let mut end = put_word(first, 0, out);
     end = put_number(x, end, out);
     end = put_word(second, end, out);
-    end = put_number(y, end, out);
-    put(b'\n', end, out)
+    put_number(y, end, out)
 }
 
 // The listing of k nodes at n states: at most 20 bytes in the first line, and 260 in each other.
@@ -109,7 +108,8 @@ pub fn list(n: usize, k: usize, marks: &[u8], out: &mut [u8]) -> usize
     requires { ⌜ (n ≤ 256) × (k ≤ 64) × (k * n ≤ length (now marks)) × (20 + 64 * 260 ≤ length (now out)) ⌝ }
     ensures { λ r. ⌜ Shown (listing n k (now (marks .entry))) r (now (out .entry)) (now (out .exit)) ⌝ }
 {
-    let end = put_numbers(b"states ", n, b" nodes ", k, out);
+    let counted = put_numbers(b"states ", n, b" nodes ", k, out);
+    let end = put(b'\n', counted, out);
     put_nodes(n, k, marks, end, out)
 }
 
@@ -118,5 +118,6 @@ pub fn refuse(number: u32, place: u32, out: &mut [u8]) -> usize
     requires { ⌜ 33 ≤ length (now out) ⌝ }
     ensures { λ r. ⌜ Shown (refusedLine number place) r (now (out .entry)) (now (out .exit)) ⌝ }
 {
-    put_numbers(b"refused ", number as usize, b" at ", place as usize, out)
+    let placed = put_numbers(b"refused ", number as usize, b" at ", place as usize, out);
+    put(b'\n', placed, out)
 }

@@ -19,7 +19,7 @@ use Rattle.outcome.specs.Refusal.{success, lowest}
 use Rattle.outcome.specs.Met.{Unmet, end}
 use Rattle.outcome.proofs.First.{Numbered, zero-iff, success-iff}
 use Rattle.outcome.proofs.Unmet.{unmet-more, unmet-row, unmet-append-iff}
-use Rattle.outcome.proofs.Lowest.{none-below, below-none}
+use Rattle.outcome.proofs.Lowest.{none-below, lowest-none}
 use Rattle.chart.specs.Bytes.{stateCount, arrowCount, chartOf}
 use Rattle.chart.specs.Shape.{Shape, Passed}
 use Rattle.chart.specs.Refusals.{chartTable, chartRefusal}
@@ -117,7 +117,7 @@ module _ (s : List ℕ) where
   unfolding loopRow
   loop-unmet acc =
       let G = chartOf s in
-      let e = below-none (onZeroLoop G) (stateCount s) (λ v l. no-test (on-zero-loop-iff G v) (acc .timed v)) in
+      let e = lowest-none (onZeroLoop G) (stateCount s) (λ v l. no-test (on-zero-loop-iff G v) (acc .timed v)) in
       unmet-more e end
 
   accepted-unmet : AcceptedChart s → Unmet (acceptedTable s)

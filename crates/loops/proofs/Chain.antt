@@ -2,8 +2,7 @@
 use mathlib.Core.Path.{_≡_}
 use mathlib.Core.List.{List, [], _∷_}
 use Prim.Native.Nat.{ℕ, _≤_}
-use native.Mathlib.Omega.{arith}
-use lib.ListN.{length, take, length-take}
+use lib.ListN.{length}
 use Rattle.outcome.specs.declared.Outcome.{Outcome}
 use Rattle.outcome.specs.Refusal.{first}
 use Rattle.outcome.proofs.First.{part-zero, part-refuses, part-passes}
@@ -12,9 +11,6 @@ use Rattle.chart.specs.Refusals.{chartTable, chartRefusal}
 use Rattle.chart.specs.Shape.{Passed}
 use Rattle.chart.proofs.Accepted.{well-formed}
 use Rattle.loops.specs.Refusal.{loopRow, acceptedTable, acceptedRefusal}
-
-pub prefix-size : (n : ℕ) (l : List ℕ) → n ≤ length l → length (take n l) ≡ n
-prefix-size n l h = omega (arith, length-take n l)
 
 module _ (s : List ℕ) {r : Outcome} (e : r ≡ chartRefusal s) where
   pub chart-refuses : (r .number ≡ 0 → ⊥) → r ≡ acceptedRefusal s

@@ -1,11 +1,11 @@
 -- Numbers that are all 0.
-use mathlib.Core.Path.{_≡_, refl, _∙_}
+use mathlib.Core.Path.{_≡_, _∙_}
 use mathlib.Core.Logic.{by-cases}
-use mathlib.Core.List.{List, [], _∷_}
-use Prim.Native.Nat.{ℕ, zero, suc, _+_, _≤_, _<_}
+use mathlib.Core.List.{List}
+use Prim.Native.Nat.{ℕ, _+_, _<_}
 use native.Mathlib.Omega.{arith}
 use native.Mathlib.Decide.{decLe}
-use lib.ListN.{length, set}
+use lib.ListN.{length, set, List·getD-eq-default}
 use lib.Seq.{getD-set-same, getD-set-other}
 use borrow.Author.Count.{below-more}
 use Rattle.model.specs.Engine.{num, Numbers}
@@ -19,14 +19,9 @@ cleared-more vs i l f =
     (λ s h. getD-set-other vs i s 0 0 (λ e. let z : ⊥ = omega arith in z) ∙ f s h)
     (getD-set-same vs i 0 0 l)
 
-beyond : (vs : List ℕ) (s : ℕ) → length vs ≤ s → num vs s ≡ 0
-beyond [] s l = refl
-beyond (v ∷ vs) zero l = absurd (let z : ⊥ = omega arith in z)
-beyond (v ∷ vs) (suc s) l = beyond vs s (omega arith)
-
 -- past the last there is no number, which reads as 0
 pub cleared-all : (vs : List ℕ) → ((s : ℕ) → s < length vs → num vs s ≡ 0) → (s : ℕ) → num vs s ≡ 0
-cleared-all vs f s = by-cases (decLe (length vs) s) (beyond vs s) (λ h. f s (omega arith))
+cleared-all vs f s = by-cases (decLe (length vs) s) (List·getD-eq-default vs 0) (λ h. f s (omega arith))
 
 pub cleared-numbers : {vs : List ℕ} {n : ℕ} (cap : ℕ) → length vs ≡ n → ((s : ℕ) → num vs s ≡ 0) → Numbers n cap vs
 cleared-numbers cap e zeros = record { size = e; capped = λ s. omega (arith, zeros s) }

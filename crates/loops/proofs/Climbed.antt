@@ -2,7 +2,8 @@
 use mathlib.Core.Path.{_≡_, refl, sym, ap, subst, _∙_}
 use mathlib.Core.Logic.{_⊎_, inl, inr}
 use mathlib.Core.List.{List}
-use Prim.Native.Nat.{ℕ, zero, suc, _+_, _≤_, _<_}
+use Prim.Native.Nat.{ℕ, _+_, _≤_, _<_}
+use native.Mathlib.Nat.{eq-zero-or-pos}
 use native.Mathlib.Omega.{arith}
 use lib.ListN.{length}
 use borrow.Author.Count.{below-more}
@@ -17,10 +18,6 @@ use Rattle.loops.specs.declared.Search.{Search}
 use Rattle.loops.specs.Climb.{Raises, limit, Climbs, same, more, Quiet, room}
 use Rattle.loops.specs.Parts.{liftAt, RestsAt, Raised, Climbed}
 use Rattle.loops.proofs.Climb.{lift-limit, climb-trans, room-set}
-
-none-or-some : (r : ℕ) → (r ≡ 0) ⊎ (1 ≤ r)
-none-or-some zero = inl refl
-none-or-some (suc r) = inr (omega arith)
 
 -- what is true of i is true from i on, below i + 1
 alone : (P : ℕ → Type 0) (i : ℕ) → P i → (j : ℕ) → i ≤ j → j < i + 1 → P j
@@ -61,7 +58,7 @@ module _ {s : List ℕ} {search : Search} where
     climbed-here {r = r} {old} {new} p l ns e x =
         record {
           few = omega (arith, x .one);
-          climbs = climbs (none-or-some r);
+          climbs = climbs (eq-zero-or-pos r);
           still = λ z. let y = x .still z in (y .0, alone (RestsAt s search old) i (λ f. y .1));
           falls = falls;
         }
@@ -110,7 +107,7 @@ module _ {s : List ℕ} {search : Search} where
         few = omega (arith, a .few, b .few);
         climbs = climb-trans (a .climbs) (b .climbs);
         still = still;
-        falls = falls (none-or-some r) (none-or-some q);
+        falls = falls (eq-zero-or-pos r) (eq-zero-or-pos q);
       }
     where
       still : r + q ≡ 0 → (ws ≡ us) × ((j : ℕ) → 0 ≤ j → j < i + 1 → RestsAt s search us j)

@@ -12,7 +12,7 @@ use Rattle.model.specs.Engine.{num}
 use Rattle.model.specs.ZeroLoop.{onZeroLoop}
 use Rattle.model.proofs.ZeroLoop.{on-zero-loop-iff}
 use Rattle.outcome.specs.Refusal.{found, lowest}
-use Rattle.outcome.proofs.Lowest.{below-none, offender-found}
+use Rattle.outcome.proofs.Lowest.{lowest-none, offender-found}
 use Rattle.chart.specs.Bytes.{chartOf}
 use Rattle.chart.specs.Shape.{Passed}
 use Rattle.chart.proofs.Reading.{has-states, drawn}
@@ -53,7 +53,7 @@ module _ (s : List ℕ) {ws : List ℕ} where
 
     pub none-found :
         ((t : ℕ) → t < n → ¬ (num ws t ≡ n)) → false ≡ found (lowest (onZeroLoop (chartOf s)) n)
-    none-found h = ap found (sym (below-none (onZeroLoop (chartOf s)) n none))
+    none-found h = ap found (sym (lowest-none (onZeroLoop (chartOf s)) n none))
       where
         low : (t : ℕ) → t < states (chartOf s) → num ws t < states (chartOf s)
         low t l =

@@ -24,27 +24,34 @@ pub first-met : (n : ℕ) (p : Option ℕ) (i : ℕ) (rows : List Row) → p ≡
 unfolding first
 first-met n p i rows e = rw e
 
+-- where there is no refusal, no row is met: the first that is met gives its number, which is not 0
+zero-unmet : (rows : List Row) → Numbered rows → first rows .number ≡ 0 → Unmet rows
+unfolding first
+zero-unmet [] h e = end
+zero-unmet (refuse zero p ∷ rows) h e = absurd h
+zero-unmet (refuse (suc n) none ∷ rows) h e = passed (suc n) (zero-unmet rows h e)
+zero-unmet (refuse (suc n) (some i) ∷ rows) h e = absurd (let z : ⊥ = omega arith in z)
+
 -- the place of row i, counted from 0, if its condition is met
 abbrev pub placeAt : List Row → ℕ → Option ℕ
 placeAt [] i = none
 placeAt (refuse n p ∷ rows) zero = p
 placeAt (refuse n p ∷ rows) (suc i) = placeAt rows i
 
--- where there is no refusal, no row's condition is met
-pub unmet-at : (rows : List Row) → Numbered rows → first rows .number ≡ 0 → (i : ℕ) → placeAt rows i ≡ none
-unfolding first
-unmet-at [] h e i = refl
-unmet-at (refuse zero p ∷ rows) h e i = absurd h
-unmet-at (refuse (suc n) (some p) ∷ rows) h e i = absurd (let z : ⊥ = omega arith in z)
-unmet-at (refuse (suc n) none ∷ rows) h e zero = refl
-unmet-at (refuse (suc n) none ∷ rows) h e (suc i) = unmet-at rows h e i
+unmet-place : {rows : List Row} → Unmet rows → (i : ℕ) → placeAt rows i ≡ none
+unmet-place end i = refl
+unmet-place (passed n u) zero = refl
+unmet-place (passed n u) (suc i) = unmet-place u i
 
-append-zero : (xs ys : List Row) → Numbered xs → first xs .number ≡ 0 → first (xs ++ ys) ≡ first ys
+pub unmet-at : (rows : List Row) → Numbered rows → first rows .number ≡ 0 → (i : ℕ) → placeAt rows i ≡ none
+unmet-at rows h e = unmet-place (zero-unmet rows h e)
+
+-- ── A table in two parts ──
+
+unmet-first : (ys : List Row) {xs : List Row} → Unmet xs → first (xs ++ ys) ≡ first ys
 unfolding first
-append-zero [] ys h e = refl
-append-zero (refuse zero p ∷ xs) ys h e = absurd h
-append-zero (refuse (suc n) none ∷ xs) ys h e = append-zero xs ys h e
-append-zero (refuse (suc n) (some i) ∷ xs) ys h e = absurd (let z : ⊥ = omega arith in z)
+unmet-first ys end = refl
+unmet-first ys (passed n u) = unmet-first ys u
 
 append-stop : (xs ys : List Row) → (first xs .number ≡ 0 → ⊥) → first (xs ++ ys) ≡ first xs
 unfolding first
@@ -63,12 +70,9 @@ part-refuses xs ys e h = e ∙ sym (append-stop xs ys (λ z. h (ap (λ (o : Outc
 pub part-passes :
     (xs ys : List Row) {r x : Outcome} → Numbered xs → r ≡ first xs → r .number ≡ 0 → x ≡ first ys →
     x ≡ first (xs ++ ys)
-part-passes xs ys h e z f = f ∙ sym (append-zero xs ys h (part-zero xs e z))
+part-passes xs ys h e z f = f ∙ sym (unmet-first ys (zero-unmet xs h (part-zero xs e z)))
 
-unmet-first : (ys : List Row) {xs : List Row} → Unmet xs → first (xs ++ ys) ≡ first ys
-unfolding first
-unmet-first ys end = refl
-unmet-first ys (passed n u) = unmet-first ys u
+-- ── Which row is the answer ──
 
 met-first : (rows : List Row) (n p : ℕ) → FirstMet rows n p → first rows ≡ refusal n p
 met-first rows n p m =
@@ -95,13 +99,6 @@ first-is-met (refuse k (some i) ∷ rows) n p l e =
 -- "each number is returned if and only if its condition is met and none tested before it is"
 pub first-iff : (rows : List Row) (n p : ℕ) → 0 < n → (first rows ≡ refusal n p) ↔ FirstMet rows n p
 first-iff rows n p l = (first-is-met rows n p l, met-first rows n p)
-
-zero-unmet : (rows : List Row) → Numbered rows → first rows .number ≡ 0 → Unmet rows
-unfolding first
-zero-unmet [] h e = end
-zero-unmet (refuse zero p ∷ rows) h e = absurd h
-zero-unmet (refuse (suc n) none ∷ rows) h e = passed (suc n) (zero-unmet rows h e)
-zero-unmet (refuse (suc n) (some i) ∷ rows) h e = absurd (let z : ⊥ = omega arith in z)
 
 unmet-success : {rows : List Row} → Unmet rows → first rows ≡ success
 unfolding first

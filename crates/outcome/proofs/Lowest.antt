@@ -29,10 +29,10 @@ module _ (p : ℕ → Bool) where
       turn h ih (yes d) = subst (λ x. p x ≡ false) (sym d) (h .1)
       turn h ih (no d) = ih (h .0) i (omega arith)
 
-  pub below-none : (k : ℕ) → ((i : ℕ) → i < k → p i ≡ false) → lowest p k ≡ none
+  pub lowest-none : (k : ℕ) → ((i : ℕ) → i < k → p i ≡ false) → lowest p k ≡ none
   unfolding lowest
-  below-none zero f = refl
-  below-none (suc k) f = rw (below-none k (λ i l. f i (omega arith)), f k (omega arith))
+  lowest-none zero f = refl
+  lowest-none (suc k) f = rw (lowest-none k (λ i l. f i (omega arith)), f k (omega arith))
 
   -- an offender found stays the lowest when more numbers are asked
   lowest-more : (d k i : ℕ) → lowest p k ≡ some i → lowest p (d + k) ≡ some i
@@ -45,7 +45,7 @@ module _ (p : ℕ → Bool) where
   pub lowest-some : {k i : ℕ} → Least p k i → lowest p k ≡ some i
   unfolding lowest
   lowest-some {k} {i} h =
-      let here : lowest p (suc i) ≡ some i = rw (below-none i (h .under), h .offends) in
+      let here : lowest p (suc i) ≡ some i = rw (lowest-none i (h .under), h .offends) in
       let z : (k - suc i) + suc i ≡ k = omega (arith, h .inside) in
       ap (lowest p) (sym z) ∙ lowest-more (k - suc i) (suc i) i here
 

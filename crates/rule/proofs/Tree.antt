@@ -44,9 +44,12 @@ module _ {s : List ℕ} (acc : Accepted s) where
       (λ u. let v = lower-a acc t l u in depth-same d e (nodeWords s t .a) (omega arith) (omega arith) (omega arith))
       (λ u. let v = lower-b acc t l u in depth-same d e (nodeWords s t .b) (omega arith) (omega arith) (omega arith))
 
-  pub formula-at : (t : ℕ) → t < nodeCount s → formulaAt s t ≡ operation (nodeWords s t .operation) (nodeWords s t) (formulaAt s)
+  pub formula-at :
+      (t : ℕ) → t < nodeCount s → formulaAt s t ≡ operation (nodeWords s t .operation) (nodeWords s t) (formulaAt s)
   unfolding formulaBy
   formula-at t l =
+      let a = nodeWords s t .a in
+      let b = nodeWords s t .b in
       operation-same (nodeWords s t .operation) (nodeWords s t) (formulaBy t s) (formulaAt s)
-      (λ u. let v = lower-a acc t l u in depth-same t (suc (nodeWords s t .a)) (nodeWords s t .a) (omega arith) v (omega arith))
-      (λ u. let v = lower-b acc t l u in depth-same t (suc (nodeWords s t .b)) (nodeWords s t .b) (omega arith) v (omega arith))
+      (λ u. let v = lower-a acc t l u in depth-same t (suc a) a (omega arith) v (omega arith))
+      (λ u. let v = lower-b acc t l u in depth-same t (suc b) b (omega arith) v (omega arith))

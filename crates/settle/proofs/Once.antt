@@ -9,7 +9,8 @@ use lib.Dec.{eqb, leb}
 use borrow.Author.Tests.{leb-true, leb-false, eqb-true, eqb-false, ne-eqb}
 use Rattle.rule.specs.Bytes.{nodeCount, nodeWords}
 use Rattle.rule.specs.Refusals.{uses, usesIn, names}
-use Rattle.rule.proofs.Accepted.{Accepted, has-operand, lower-a, lower-b}
+use Rattle.rule.proofs.Operation.{has-operand}
+use Rattle.rule.proofs.Accepted.{Accepted, lower-a, lower-b}
 use Rattle.settle.specs.Visits.{visits}
 use Rattle.settle.proofs.Visits.{visits-at}
 

@@ -3,9 +3,9 @@ use mathlib.Core.Path.{_≡_, sym, _∙_}
 use mathlib.Core.List.{List}
 use Prim.Native.Nat.{ℕ, _≤_}
 use lib.ListN.{length}
+use lib.Seq.{length-take-le}
 use native.Mathlib.Omega.{arith}
 use denote.Ref.{now}
-use Rattle.loops.proofs.Chain.{prefix-size}
 use Rattle.chart.proofs.Accepted.{well-formed}
 use Rattle.rule.proofs.Accepted.{accepted}
 use Rattle.checker.specs.Check.{scratchSize}
@@ -15,15 +15,6 @@ use Rattle.checker.proofs.Answers.{refused-checked, judged-checked}
 use borrow.Author.Needs.{needs}
 use Rattle.checker.proofs.check.Statement.{statement}
 use Rattle.checker.proofs.check.Tie as tie
-
-input-refusal-requires : tie.Need-input-refusal-requires
-input-refusal-requires c κs = search needs
-
-same-length : tie.Need-same-length
-same-length c = search needs
-
-same-length-2 : tie.Need-same-length-2
-same-length-2 c = search needs
 
 returns : tie.Need-returns
 returns c =
@@ -63,7 +54,7 @@ slice-relend-prefix-judged c = omega (arith, inside (c .before .before .before))
 slice-aggregate-judged : tie.Need-slice-aggregate-judged
 slice-aggregate-judged c =
     let counted = c .before .before .before .before in
-    sym (prefix-size (counted .state-count .result) _ (omega (arith, inside counted)))
+    sym (length-take-le (counted .state-count .result) _ (omega (arith, inside counted)))
 
 judged-requires : tie.Need-judged-requires
 judged-requires c κs =
@@ -80,7 +71,7 @@ judged-requires c κs =
       nodes = nodes .node-count .ensures .0;
       unrefused = p .of-rule;
       table = rw (counted .state-count .ensures .0, nodes .node-count .ensures .0) (p .table);
-      size = prefix-size (counted .state-count .result) _ (omega (arith, inside counted));
+      size = length-take-le (counted .state-count .result) _ (omega (arith, inside counted));
     }
 
 -- the numbers used are n, and what is cleared is no less
@@ -89,12 +80,14 @@ used :
     length (c .judged .last .1 .1 .1 .1 .1 .1 .0) ≡ c .before .before .before .before .before .state-count .result
 used c =
     let counted = c .before .before .before .before .before in
-    c .judged .kept .1 .1 .1 .1 .1 .1 .0 ∙ prefix-size (counted .state-count .result) _ (omega (arith, inside counted))
+    c .judged .kept .1 .1 .1 .1 .1 .1 .0 ∙
+    length-take-le (counted .state-count .result) _ (omega (arith, inside counted))
 
 scratch-size-requires : tie.Need-scratch-size-requires
 scratch-size-requires c κs =
     let counted = c .before .before .before .before .before .before .before .before .before in
-    omega (arith, well-formed _ (passed (counted .before) .of-chart) .shape .few-states, counted .state-count .ensures .0)
+    let shape = well-formed _ (passed (counted .before) .of-chart) .shape in
+    omega (arith, shape .few-states, counted .state-count .ensures .0)
 
 sized :
     (c : tie.After-scratch-size) →
@@ -118,15 +111,6 @@ slice-aggregate-clear c =
     let numbers = judged .judged .last .1 .1 .1 .1 .1 .1 .0 in
     used-front _ _ (lent counted) numbers (used judged) (sized (c .before) .0) (sized (c .before) .1)
 
-clear-requires : tie.Need-clear-requires
-clear-requires c κs = search needs
-
-same-length-3 : tie.Need-same-length-3
-same-length-3 c = search needs
-
-same-length-4 : tie.Need-same-length-4
-same-length-4 c = search needs
-
 returns-2 : tie.Need-returns-2
 returns-2 c =
     let cleared = c .before .before in
@@ -137,7 +121,8 @@ returns-2 c =
     let a = input .before .before .before .before .before .before .before .args in
     let numbers = judged .judged .last .1 .1 .1 .1 .1 .1 .0 in
     judged-checked (now (a .chart)) (now (a .rule)) (now (a .marks)) (now (a .scratch)) (input .input-refusal .ensures)
-    (counted .before .if1 .left) (counted .state-count .ensures .0) (size .scratch-size .ensures) (judged .judged .ensures)
+    (counted .before .if1 .left) (counted .state-count .ensures .0) (size .scratch-size .ensures)
+    (judged .judged .ensures)
     (cleared-front _ _ (lent counted) numbers (used judged) (sized size .0) (sized size .1) (cleared .clear .last .0)
     (cleared .clear .kept .0) (cleared .clear .ensures))
 
@@ -145,9 +130,9 @@ pub check-spec : {M : Type 1} → statement M
 check-spec =
     tie.close
     (tie.spec
-    input-refusal-requires
-    same-length
-    same-length-2
+    (λ c κs. search needs)
+    (λ c. search needs)
+    (λ c. search needs)
     returns
     state-count-requires
     arrow-count-requires
@@ -158,7 +143,7 @@ check-spec =
     scratch-size-requires
     slice-relend-prefix-clear
     slice-aggregate-clear
-    clear-requires
-    same-length-3
-    same-length-4
+    (λ c κs. search needs)
+    (λ c. search needs)
+    (λ c. search needs)
     returns-2)

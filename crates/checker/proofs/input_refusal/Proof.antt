@@ -7,17 +7,11 @@ use denote.Ref.{now}
 use Rattle.checker.proofs.input_refusal.Statement.{statement}
 use Rattle.checker.proofs.input_refusal.Tie as tie
 
-chart-refusal-requires : tie.Need-chart-refusal-requires
-chart-refusal-requires c κs = search needs
-
 returns : tie.Need-returns
 returns c =
     let a = c .before .before .before .before .before .before .before .args in
     chart-refuses (now (a .chart)) (now (a .rule)) (now (a .marks)) (now (a .scratch))
     (c .before .before .chart-refusal .ensures) (c .if1 .taken)
-
-rule-refusal-requires : tie.Need-rule-refusal-requires
-rule-refusal-requires c κs = search needs
 
 returns-2 : tie.Need-returns-2
 returns-2 c =
@@ -59,9 +53,9 @@ pub input-refusal-spec : {M : Type 1} → statement M
 input-refusal-spec =
     tie.close
     (tie.spec
-    chart-refusal-requires
+    (λ c κs. search needs)
     returns
-    rule-refusal-requires
+    (λ c κs. search needs)
     returns-2
     state-count-requires
     node-count-requires

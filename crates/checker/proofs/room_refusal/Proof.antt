@@ -15,18 +15,9 @@ mul-if1 c =
     let p = c .before .before .pre in
     omega (arith, mul-le-mul (p .1) (p .0))
 
-refused-requires : tie.Need-refused-requires
-refused-requires c κs = search needs
-
 returns : tie.Need-returns
 unfolding first
 returns c = simp (lt-ltb _ _ (c .before .if1 .taken)) (c .refused .ensures)
-
-scratch-size-requires : tie.Need-scratch-size-requires
-scratch-size-requires c κs = search needs
-
-refused-requires-2 : tie.Need-refused-requires-2
-refused-requires-2 c κs = search needs
 
 returns-2 : tie.Need-returns-2
 unfolding first
@@ -36,15 +27,13 @@ returns-2 c =
     let short = lt-ltb (length (now (a .scratch))) (scratchSize (a .n)) (omega (arith, sized .scratch-size .ensures)) in
     simp (le-ltb _ _ (sized .before .if1 .left), short) (c .refused2 .ensures)
 
-accepted-requires : tie.Need-accepted-requires
-accepted-requires c κs = search needs
-
 returns-3 : tie.Need-returns-3
 unfolding first
 returns-3 c =
     let sized = c .before .before in
     let a = sized .before .before .before .before .args in
-    let enough = le-ltb (length (now (a .scratch))) (scratchSize (a .n)) (omega (arith, sized .scratch-size .ensures)) in
+    let fits = sized .scratch-size .ensures in
+    let enough = le-ltb (length (now (a .scratch))) (scratchSize (a .n)) (omega (arith, fits)) in
     simp (le-ltb _ _ (sized .before .if1 .left), enough) (c .accepted .ensures)
 
 pub room-refusal-spec : {M : Type 1} → statement M
@@ -52,10 +41,10 @@ room-refusal-spec =
     tie.close
     (tie.spec
     mul-if1
-    refused-requires
+    (λ c κs. search needs)
     returns
-    scratch-size-requires
-    refused-requires-2
+    (λ c κs. search needs)
+    (λ c κs. search needs)
     returns-2
-    accepted-requires
+    (λ c κs. search needs)
     returns-3)

@@ -6,21 +6,6 @@ use Rattle.desk_call.proofs.Verdict.{refusal-printed, listing-printed, 
 use Rattle.desk_call.proofs.report.Statement.{statement}
 use Rattle.desk_call.proofs.report.Tie as tie
 
-slice-aggregate-check : tie.Need-slice-aggregate-check
-slice-aggregate-check c = search needs
-
-slice-aggregate-check-2 : tie.Need-slice-aggregate-check-2
-slice-aggregate-check-2 c = search needs
-
-check-requires : tie.Need-check-requires
-check-requires c κs = search needs
-
-refuse-requires : tie.Need-refuse-requires
-refuse-requires c κs = search needs
-
-same-length : tie.Need-same-length
-same-length c = search needs
-
 returns : tie.Need-returns
 returns c =
     let refused = c .before .before in
@@ -38,9 +23,6 @@ node-count-requires c κs =
     let check = c .before .before .before .before .before in
     omega (arith, rule-shaped _ _ (check .check .ensures) (c .before .if1 .left) .whole)
 
-slice-aggregate-list : tie.Need-slice-aggregate-list
-slice-aggregate-list c = search needs
-
 list-requires : tie.Need-list-requires
 list-requires c κs =
     let nodes = c .before .before in
@@ -57,9 +39,6 @@ list-requires c κs =
       omega arith,
     )
 
-same-length-2 : tie.Need-same-length-2
-same-length-2 c = search needs
-
 returns-2 : tie.Need-returns-2
 returns-2 c =
     let listed = c .before .before in
@@ -75,15 +54,15 @@ pub report-spec : {M : Type 1} → statement M
 report-spec =
     tie.close
     (tie.spec
-    slice-aggregate-check
-    slice-aggregate-check-2
-    check-requires
-    refuse-requires
-    same-length
+    (λ c. search needs)
+    (λ c. search needs)
+    (λ c κs. search needs)
+    (λ c κs. search needs)
+    (λ c. search needs)
     returns
     state-count-requires
     node-count-requires
-    slice-aggregate-list
+    (λ c. search needs)
     list-requires
-    same-length-2
+    (λ c. search needs)
     returns-2)

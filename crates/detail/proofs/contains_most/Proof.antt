@@ -3,14 +3,8 @@ use borrow.Author.Needs.{needs}
 use Rattle.detail.proofs.contains_most.Statement.{statement}
 use Rattle.detail.proofs.contains_most.Tie as tie
 
-no-end-requires : tie.Need-no-end-requires
-no-end-requires c κs = search needs
-
 returns : tie.Need-returns
 returns c = rw (← c .before .no-end .ensures, c .if1 .taken)
-
-no-end-requires-2 : tie.Need-no-end-requires-2
-no-end-requires-2 c κs = search needs
 
 returns-2 : tie.Need-returns-2
 returns-2 c =
@@ -24,4 +18,4 @@ returns-3 c =
 
 pub contains-most-spec : {M : Type 1} → statement M
 contains-most-spec =
-    tie.close (tie.spec no-end-requires returns no-end-requires-2 returns-2 returns-3)
+    tie.close (tie.spec (λ c κs. search needs) returns (λ c κs. search needs) returns-2 returns-3)

@@ -65,9 +65,6 @@ cast-refused c =
     let start = at-loop .before .before .before .before in
     omega (arith, shaped (start .pre .0) .few-arrows)
 
-refused-requires : tie.Need-refused-requires Inv-loop μ-loop
-refused-requires c κs = tt
-
 returns : tie.Need-returns Inv-loop μ-loop
 returns c =
     let tested = c .before .before in
@@ -75,20 +72,11 @@ returns c =
     let e = told tested (c .before .if1 .taken) in
     c .refused .ensures ∙ search-found 23 (record { inside = omega arith; offends = e; under = loop .inv .1 })
 
-add-i : tie.Need-add-i Inv-loop μ-loop
-add-i c = omega arith
-
-loop-less : tie.Need-loop-less Inv-loop μ-loop
-loop-less c = omega arith
-
 loop-again : tie.Need-loop-again Inv-loop μ-loop
 loop-again c =
     let tested = c .before in
     let loop = tested .before .before .before .before .before .loop in
     (omega arith, below-more _ (loop .i) (loop .inv .1) (told tested (c .if1 .left)))
-
-accepted-requires : tie.Need-accepted-requires Inv-loop μ-loop
-accepted-requires c κs = tt
 
 returns-2 : tie.Need-returns-2 Inv-loop μ-loop
 returns-2 c = c .accepted .ensures ∙ search-ended 23 (λ v l. c .before .before .loop .inv .1 v (omega arith))
@@ -105,10 +93,10 @@ cover-refusal-spec =
     entry-at-requires-2
     covered-arrow-requires
     cast-refused
-    refused-requires
+    (λ c κs. tt)
     returns
-    add-i
-    loop-less
+    (λ c. omega arith)
+    (λ c. omega arith)
     loop-again
-    accepted-requires
+    (λ c κs. tt)
     returns-2)

@@ -38,9 +38,6 @@ loop-holds c = (omega arith, below-none _)
 arrow-at-requires : tie.Need-arrow-at-requires Inv-loop μ-loop
 arrow-at-requires c κs = arrow-inside (shaped (c .before .before .before .pre)) (c .loop-test .taken)
 
-covers-arrow-requires : tie.Need-covers-arrow-requires Inv-loop μ-loop
-covers-arrow-requires c κs = tt
-
 returns : tie.Need-returns Inv-loop μ-loop
 returns c =
     let at-loop = c .before .before .before .before in
@@ -48,12 +45,6 @@ returns c =
     let a = start .args in
     covered-found (now (a .overview)) (a .from) (a .to) (arrowOf (a .a)) (at-loop .loop .j)
     (omega (arith, start .pre .arrows)) (told (c .before) (c .if1 .taken))
-
-add-j : tie.Need-add-j Inv-loop μ-loop
-add-j c = omega arith
-
-loop-less : tie.Need-loop-less Inv-loop μ-loop
-loop-less c = omega arith
 
 loop-again : tie.Need-loop-again Inv-loop μ-loop
 loop-again c =
@@ -75,9 +66,9 @@ covered-arrow-spec =
     μ-loop
     loop-holds
     arrow-at-requires
-    covers-arrow-requires
+    (λ c κs. tt)
     returns
-    add-j
-    loop-less
+    (λ c. omega arith)
+    (λ c. omega arith)
     loop-again
     returns-2)

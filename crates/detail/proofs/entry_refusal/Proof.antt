@@ -21,15 +21,6 @@ abbrev μ-loop : tie.MeasureT-loop
 loop-holds : tie.Need-loop-holds Inv-loop μ-loop
 loop-holds c = (omega arith, below-none _)
 
-entry-at-requires : tie.Need-entry-at-requires Inv-loop μ-loop
-entry-at-requires c κs = omega arith
-
-cast-refused : tie.Need-cast-refused Inv-loop μ-loop
-cast-refused c = omega arith
-
-refused-requires : tie.Need-refused-requires Inv-loop μ-loop
-refused-requires c κs = tt
-
 returns : tie.Need-returns Inv-loop μ-loop
 returns c =
     let tested = c .before in
@@ -41,12 +32,6 @@ returns c =
     let e = le-leb (a .k) (entry (now (a .map)) (loop .d)) (omega (arith, tested .if1 .taken, is)) in
     c .refused .ensures ∙ search-found 21 (record { inside = omega arith; offends = e; under = loop .inv .1 })
 
-add-d : tie.Need-add-d Inv-loop μ-loop
-add-d c = omega arith
-
-loop-less : tie.Need-loop-less Inv-loop μ-loop
-loop-less c = omega arith
-
 loop-again : tie.Need-loop-again Inv-loop μ-loop
 loop-again c =
     let read = c .before in
@@ -56,9 +41,6 @@ loop-again c =
     let is = read .entry-at .ensures .0 in
     let e = lt-leb (a .k) (entry (now (a .map)) (loop .d)) (omega (arith, c .if1 .left, is)) in
     (omega arith, below-more _ (loop .d) (loop .inv .1) e)
-
-accepted-requires : tie.Need-accepted-requires Inv-loop μ-loop
-accepted-requires c κs = tt
 
 returns-2 : tie.Need-returns-2 Inv-loop μ-loop
 returns-2 c = c .accepted .ensures ∙ search-ended 21 (λ v l. c .before .before .loop .inv .1 v (omega arith))
@@ -70,12 +52,12 @@ entry-refusal-spec =
     Inv-loop
     μ-loop
     loop-holds
-    entry-at-requires
-    cast-refused
-    refused-requires
+    (λ c κs. omega arith)
+    (λ c. omega arith)
+    (λ c κs. tt)
     returns
-    add-d
-    loop-less
+    (λ c. omega arith)
+    (λ c. omega arith)
     loop-again
-    accepted-requires
+    (λ c κs. tt)
     returns-2)

@@ -9,12 +9,6 @@ use Rattle.detail.proofs.Format.{form-refuses, form-passes, unheaded, f
 use Rattle.detail.proofs.form_refusal.Statement.{statement}
 use Rattle.detail.proofs.form_refusal.Tie as tie
 
-head-refusal-requires : tie.Need-head-refusal-requires
-head-refusal-requires c κs = search needs
-
-refused-requires : tie.Need-refused-requires
-refused-requires c κs = search needs
-
 returns : tie.Need-returns
 returns c =
     let tested = c .before .before .before in
@@ -28,33 +22,15 @@ be16-requires c κs =
     let start = tested .before .before in
     omega (arith, head-passed 20 7 (now (start .args .map)) tt (tested .head-refusal .ensures) (c .if1 .left))
 
-cast-count : tie.Need-cast-count
-cast-count c = search needs
-
-mul-if2 : tie.Need-mul-if2
-mul-if2 c = search needs
-
-add-if2 : tie.Need-add-if2
-add-if2 c = search needs
-
-refused-requires-2 : tie.Need-refused-requires-2
-refused-requires-2 c κs = search needs
-
 returns-2 : tie.Need-returns-2
 returns-2 c =
     let e = ap (λ x. 7 + 2 * x) (sym (c .before .before .be16 .ensures .0)) in
     form-refuses _ _ (λ f. c .before .if2 .taken (f .whole ∙ e)) (c .refused2 .ensures)
 
-refused-requires-3 : tie.Need-refused-requires-3
-refused-requires-3 c κs = search needs
-
 returns-3 : tie.Need-returns-3
 returns-3 c =
     let count = c .before .before .before .be16 .ensures .0 in
     form-refuses _ _ (λ f. c .before .if3 .taken (count ∙ f .count)) (c .refused3 .ensures)
-
-accepted-requires : tie.Need-accepted-requires
-accepted-requires c κs = search needs
 
 returns-4 : tie.Need-returns-4
 returns-4 c =
@@ -71,16 +47,16 @@ pub form-refusal-spec : {M : Type 1} → statement M
 form-refusal-spec =
     tie.close
     (tie.spec
-    head-refusal-requires
-    refused-requires
+    (λ c κs. search needs)
+    (λ c κs. search needs)
     returns
     be16-requires
-    cast-count
-    mul-if2
-    add-if2
-    refused-requires-2
+    (λ c. search needs)
+    (λ c. search needs)
+    (λ c. search needs)
+    (λ c κs. search needs)
     returns-2
-    refused-requires-3
+    (λ c κs. search needs)
     returns-3
-    accepted-requires
+    (λ c κs. search needs)
     returns-4)

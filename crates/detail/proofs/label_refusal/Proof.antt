@@ -7,13 +7,14 @@ use borrow.Author.Count.{below-none, below-more}
 use denote.Ref.{now}
 use Rattle.outcome.proofs.Search.{search-found, search-ended}
 use Rattle.chart.proofs.Reading.{shaped, labels-inside}
-use Rattle.detail.proofs.Tested.{differ, labels-told}
+use Rattle.detail.specs.Refusals.{labelsDiffer}
+use Rattle.detail.proofs.Tested.{labels-told}
 use Rattle.detail.proofs.label_refusal.Statement.{statement}
 use Rattle.detail.proofs.label_refusal.Tie as tie
 
 abbrev Inv-loop : tie.InvT-loop
 Inv-loop detail n m overview k l map d₀ d =
-    (d ≤ n) × ((v : ℕ) → v < d → differ detail overview map v ≡ false)
+    (d ≤ n) × ((v : ℕ) → v < d → labelsDiffer detail overview map v ≡ false)
 
 abbrev μ-loop : tie.MeasureT-loop
 μ-loop detail n m overview k l map d₀ d = n - d
@@ -23,7 +24,7 @@ told :
     (c : tie.After-label-word2 Inv-loop μ-loop) →
     let at-loop = c .before .before .before .before in
     let a = at-loop .before .before .before .before .args in
-    let offends = differ (now (a .detail)) (now (a .overview)) (now (a .map)) (at-loop .loop .d) in
+    let offends = labelsDiffer (now (a .detail)) (now (a .overview)) (now (a .map)) (at-loop .loop .d) in
     let x = c .before .before .label-word .result in
     let y = c .label-word2 .result in
     (¬ (x ≡ y) → offends ≡ true) × (x ≡ y → offends ≡ false)
@@ -54,9 +55,6 @@ cast-refused c =
     let start = at-loop .before .before .before .before in
     omega (arith, shaped (start .pre .0) .few-states)
 
-refused-requires : tie.Need-refused-requires Inv-loop μ-loop
-refused-requires c κs = tt
-
 returns : tie.Need-returns Inv-loop μ-loop
 returns c =
     let read = c .before .before in
@@ -64,20 +62,11 @@ returns c =
     let e = told read .0 (c .before .if1 .taken) in
     c .refused .ensures ∙ search-found 22 (record { inside = omega arith; offends = e; under = loop .inv .1 })
 
-add-d : tie.Need-add-d Inv-loop μ-loop
-add-d c = omega arith
-
-loop-less : tie.Need-loop-less Inv-loop μ-loop
-loop-less c = omega arith
-
 loop-again : tie.Need-loop-again Inv-loop μ-loop
 loop-again c =
     let read = c .before in
     let loop = read .before .before .before .before .loop in
     (omega arith, below-more _ (loop .d) (loop .inv .1) (told read .1 (c .if1 .left)))
-
-accepted-requires : tie.Need-accepted-requires Inv-loop μ-loop
-accepted-requires c κs = tt
 
 returns-2 : tie.Need-returns-2 Inv-loop μ-loop
 returns-2 c = c .accepted .ensures ∙ search-ended 22 (λ v l. c .before .before .loop .inv .1 v (omega arith))
@@ -93,10 +82,10 @@ label-refusal-spec =
     entry-at-requires
     label-word-requires-2
     cast-refused
-    refused-requires
+    (λ c κs. tt)
     returns
-    add-d
-    loop-less
+    (λ c. omega arith)
+    (λ c. omega arith)
     loop-again
-    accepted-requires
+    (λ c κs. tt)
     returns-2)

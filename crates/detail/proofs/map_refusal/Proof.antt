@@ -2,7 +2,8 @@
 use borrow.Author.Needs.{needs}
 use denote.Ref.{now}
 use Rattle.chart.proofs.Accepted.{well-formed}
-use Rattle.detail.proofs.Chain.{form-stops, mapped-next, map-whole}
+use Rattle.detail.proofs.Passed.{map-whole}
+use Rattle.detail.proofs.Chain.{form-stops, mapped-next}
 use Rattle.detail.proofs.map_refusal.Statement.{statement}
 use Rattle.detail.proofs.map_refusal.Tie as tie
 
@@ -17,9 +18,6 @@ state-count-requires-2 c κs = well-formed _ (c .before .before .before .before 
 
 arrow-count-requires-2 : tie.Need-arrow-count-requires-2
 arrow-count-requires-2 c κs = well-formed _ (c .before .before .before .before .before .before .pre .1) .head .enough
-
-form-refusal-requires : tie.Need-form-refusal-requires
-form-refusal-requires c κs = search needs
 
 returns : tie.Need-returns
 returns c =
@@ -62,7 +60,7 @@ map-refusal-spec =
     arrow-count-requires
     state-count-requires-2
     arrow-count-requires-2
-    form-refusal-requires
+    (λ c κs. search needs)
     returns
     mapped-refusal-requires
     returns-2)

@@ -4,7 +4,7 @@ use denote.Ref.{now}
 use Rattle.outcome.proofs.First.{part-refuses, part-passes}
 use Rattle.chart.proofs.Reading.{shaped}
 use Rattle.detail.specs.Parts.{entryRow, lastRows}
-use Rattle.detail.proofs.Chain.{mapped}
+use Rattle.detail.proofs.Passed.{mapped}
 use Rattle.detail.proofs.mapped_refusal.Statement.{statement}
 use Rattle.detail.proofs.mapped_refusal.Tie as tie
 

@@ -3,16 +3,10 @@ use borrow.Author.Needs.{needs}
 use Rattle.engine.proofs.alter.Statement.{statement}
 use Rattle.engine.proofs.alter.Tie as tie
 
-enum-told : tie.Need-enum-told
-enum-told c = search needs
-
 lower-requires : tie.Need-lower-requires
 lower-requires c κs =
     let told = c .before in
     rw (told .enum-told .given .1) at (told .before .before .before .before .pre .0)
-
-enum-known-change : tie.Need-enum-known-change
-enum-known-change c = search needs
 
 raise-requires : tie.Need-raise-requires
 raise-requires c κs =
@@ -20,16 +14,10 @@ raise-requires c κs =
     let p = told .before .before .before .before .pre in
     (rw (told .change .given .1) at (p .0), rw (told .change .given .1) at (p .1), p .2)
 
-same-length : tie.Need-same-length
-same-length c = search needs
-
 returns : tie.Need-returns
 returns c =
     let lowered = c .before .before in
     rw (lowered .before .before .enum-told .given .1) (lowered .lower .ensures)
-
-same-length-2 : tie.Need-same-length-2
-same-length-2 c = search needs
 
 returns-2 : tie.Need-returns-2
 returns-2 c =
@@ -40,11 +28,11 @@ pub alter-spec : {M : Type 1} → statement M
 alter-spec =
     tie.close
     (tie.spec
-    enum-told
+    (λ c. search needs)
     lower-requires
-    enum-known-change
+    (λ c. search needs)
     raise-requires
-    same-length
+    (λ c. search needs)
     returns
-    same-length-2
+    (λ c. search needs)
     returns-2)

@@ -10,12 +10,6 @@ rise-requires c κs =
     let p = c .before .before .before .before .pre in
     (rw (lent-bare (p .0)) (p .0), p .1)
 
-bare-requires : tie.Need-bare-requires
-bare-requires c κs = search needs
-
-same-length : tie.Need-same-length
-same-length c = search needs
-
 returns : tie.Need-returns
 returns c =
     let bared = c .before .before in
@@ -24,4 +18,4 @@ returns c =
     bared .bare .ensures ∙ rw (lent-bare p) at (settled .rise .ensures)
 
 pub greatest-spec : {M : Type 1} → statement M
-greatest-spec = tie.close (tie.spec rise-requires bare-requires same-length returns)
+greatest-spec = tie.close (tie.spec rise-requires (λ c κs. search needs) (λ c. search needs) returns)

@@ -29,9 +29,6 @@ mul-x c = omega (arith, inside (c .before .before .before) .1)
 slice-read-x : tie.Need-slice-read-x
 slice-read-x c = inside (c .before .before .before .before) .0
 
-value-requires : tie.Need-value-requires
-value-requires c κs = search needs
-
 returns : tie.Need-returns
 returns c = none
 
@@ -44,14 +41,8 @@ circles-requires c κs =
     let lent = start .pre .0 in
     (lent .passed, lent-length (now (start .args .numbers)) lent, lent .row, start .pre .2)
 
-same-length : tie.Need-same-length
-same-length c = search needs
-
 returns-3 : tie.Need-returns-3
 returns-3 c = none
-
-revalued-requires : tie.Need-revalued-requires
-revalued-requires c κs = search needs
 
 mul-numbers : tie.Need-mul-numbers
 mul-numbers c =
@@ -62,9 +53,6 @@ slice-write-numbers : tie.Need-slice-write-numbers
 slice-write-numbers c =
     let circled = c .before .before in
     inside (circled .before .before .before .before .before .before .before .before .before .before) .0
-
-same-length-2 : tie.Need-same-length-2
-same-length-2 c = search needs
 
 returns-4 : tie.Need-returns-4
 returns-4 c =
@@ -87,14 +75,14 @@ leap-spec =
     (tie.spec
     mul-x
     slice-read-x
-    value-requires
+    (λ c κs. search needs)
     returns
     returns-2
     circles-requires
-    same-length
+    (λ c. search needs)
     returns-3
-    revalued-requires
+    (λ c κs. search needs)
     mul-numbers
     slice-write-numbers
-    same-length-2
+    (λ c. search needs)
     returns-4)

@@ -28,12 +28,6 @@ leap-requires c κs =
     let p = at-loop .before .before .before .before .pre in
     (leapt-lent (p .1) (p .0) (at-loop .loop .inv .1), p .1, c .before .loop-test .taken)
 
-add-r : tie.Need-add-r Inv-loop μ-loop
-add-r c = omega arith
-
-loop-less : tie.Need-loop-less Inv-loop μ-loop
-loop-less c = omega arith
-
 loop-again : tie.Need-loop-again Inv-loop μ-loop
 loop-again c =
     let leapt = c .before .before in
@@ -59,8 +53,8 @@ leap-everywhere-spec =
     μ-loop
     loop-holds
     leap-requires
-    add-r
-    loop-less
+    (λ c. omega arith)
+    (λ c. omega arith)
     loop-again
     same-length
     returns)

@@ -12,26 +12,11 @@ follow-requires c κs =
     let lent = start .pre .0 in
     (lent .passed, lent-length (now (start .args .numbers)) lent, start .pre .2)
 
-leap-requires : tie.Need-leap-requires
-leap-requires c κs = search needs
-
-due-requires : tie.Need-due-requires
-due-requires c κs = search needs
-
-same-length : tie.Need-same-length
-same-length c = search needs
-
-returns : tie.Need-returns
-returns c = search needs
-
 leap-everywhere-requires : tie.Need-leap-everywhere-requires
 leap-everywhere-requires c κs =
     let leapt = c .before .before .before .before .before in
     let p = leapt .before .before .before .before .before .before .before .pre in
     (leapt-lent (p .1) (p .0) (leapt .leap .ensures), p .1)
-
-same-length-2 : tie.Need-same-length-2
-same-length-2 c = search needs
 
 returns-2 : tie.Need-returns-2
 returns-2 c =
@@ -44,10 +29,10 @@ leaps-spec =
     tie.close
     (tie.spec
     follow-requires
-    leap-requires
-    due-requires
-    same-length
-    returns
+    (λ c κs. search needs)
+    (λ c κs. search needs)
+    (λ c. search needs)
+    (λ c. search needs)
     leap-everywhere-requires
-    same-length-2
+    (λ c. search needs)
     returns-2)

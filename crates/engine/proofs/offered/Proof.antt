@@ -5,12 +5,6 @@ use borrow.Author.Needs.{needs}
 use Rattle.engine.proofs.offered.Statement.{statement}
 use Rattle.engine.proofs.offered.Tie as tie
 
-weight-of-requires : tie.Need-weight-of-requires
-weight-of-requires c κs = search needs
-
-no-end-requires : tie.Need-no-end-requires
-no-end-requires c κs = search needs
-
 returns : tie.Need-returns
 returns c =
     let test = c .before in
@@ -21,13 +15,10 @@ add-lesser c =
     let test = c .before in
     omega (arith, test .before .weight-of .ensures .1 (sym (test .no-end .ensures) ∙ c .if1 .left))
 
-lesser-requires : tie.Need-lesser-requires
-lesser-requires c κs = search needs
-
 returns-2 : tie.Need-returns-2
 returns-2 c =
     let test = c .before .before in
     rw (← test .before .weight-of .ensures .0, ← test .no-end .ensures, c .before .if1 .left) (c .lesser .ensures)
 
 pub offered-spec : {M : Type 1} → statement M
-offered-spec = tie.close (tie.spec weight-of-requires no-end-requires returns add-lesser lesser-requires returns-2)
+offered-spec = tie.close (tie.spec (λ c κs. search needs) (λ c κs. search needs) returns add-lesser (λ c κs. search needs) returns-2)

@@ -8,18 +8,6 @@ use borrow.Author.Needs.{needs}
 use Rattle.engine.proofs.raise.Statement.{statement}
 use Rattle.engine.proofs.raise.Tie as tie
 
-mul-value : tie.Need-mul-value
-mul-value c = search needs
-
-slice-read-value : tie.Need-slice-read-value
-slice-read-value c = search needs
-
-value-requires : tie.Need-value-requires
-value-requires c κs = search needs
-
-shared-slice-read-kept : tie.Need-shared-slice-read-kept
-shared-slice-read-kept c = search needs
-
 offered-requires : tie.Need-offered-requires
 offered-requires c κs =
     let there = c .before in
@@ -28,18 +16,6 @@ offered-requires c κs =
     let a = start .args in
     let value = there .value .ensures ∙ value-at (now (a .numbers)) (a .a .end) in
     (p .slot .most, omega (arith, value, p .capped (a .a .end)))
-
-kept-requires : tie.Need-kept-requires
-kept-requires c κs = search needs
-
-mul-value-2 : tie.Need-mul-value-2
-mul-value-2 c = search needs
-
-slice-read-value-2 : tie.Need-slice-read-value-2
-slice-read-value-2 c = search needs
-
-value-requires-2 : tie.Need-value-requires-2
-value-requires-2 c κs = search needs
 
 returns : tie.Need-returns
 returns c =
@@ -50,9 +26,6 @@ returns c =
     let a = there .before .before .before .before .args in
     raise-stays (now (a .go)) (a .a) (now (a .numbers)) (there .value .ensures) (here .value2 .ensures) (a .climb)
     (offer .offered .ensures) (judged .kept .ensures) (c .if1 .taken)
-
-reached-requires : tie.Need-reached-requires
-reached-requires c κs = search needs
 
 hinted-requires : tie.Need-hinted-requires
 hinted-requires c κs =
@@ -66,18 +39,6 @@ hinted-requires c κs =
     raise-limit (now (a .go)) (a .a) (now (a .numbers)) (there .value .ensures) (here .value2 .ensures) (a .climb)
     (offer .offered .ensures) (judged .kept .ensures) (c .reached .ensures) in
     (omega (arith, limit, start .pre .1), start .pre .2)
-
-mul-numbers : tie.Need-mul-numbers
-mul-numbers c = search needs
-
-slice-write-numbers : tie.Need-slice-write-numbers
-slice-write-numbers c = search needs
-
-add-result : tie.Need-add-result
-add-result c = search needs
-
-same-length : tie.Need-same-length
-same-length c = search needs
 
 returns-2 : tie.Need-returns-2
 returns-2 c =
@@ -96,20 +57,20 @@ pub raise-spec : {M : Type 1} → statement M
 raise-spec =
     tie.close
     (tie.spec
-    mul-value
-    slice-read-value
-    value-requires
-    shared-slice-read-kept
+    (λ c. search needs)
+    (λ c. search needs)
+    (λ c κs. search needs)
+    (λ c. search needs)
     offered-requires
-    kept-requires
-    mul-value-2
-    slice-read-value-2
-    value-requires-2
+    (λ c κs. search needs)
+    (λ c. search needs)
+    (λ c. search needs)
+    (λ c κs. search needs)
     returns
-    reached-requires
+    (λ c κs. search needs)
     hinted-requires
-    mul-numbers
-    slice-write-numbers
-    add-result
-    same-length
+    (λ c. search needs)
+    (λ c. search needs)
+    (λ c. search needs)
+    (λ c. search needs)
     returns-2)

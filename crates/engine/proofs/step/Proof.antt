@@ -20,13 +20,10 @@ alter-requires c κs =
     let few = shaped (p .0 .passed) .few-arrows in
     (placed (start .args .change) (p .0) (p .2) (read .arrow-at .ensures), p .1, omega (arith, few, p .2))
 
-same-length : tie.Need-same-length
-same-length c = search needs
-
 returns : tie.Need-returns
 returns c =
     let altered = c .before .before in
     rw (← altered .before .before .arrow-at .ensures .0) (altered .alter .ensures)
 
 pub step-spec : {M : Type 1} → statement M
-step-spec = tie.close (tie.spec arrow-at-requires alter-requires same-length returns)
+step-spec = tie.close (tie.spec arrow-at-requires alter-requires (λ c. search needs) returns)

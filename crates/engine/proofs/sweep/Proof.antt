@@ -32,15 +32,6 @@ step-requires c κs =
     let lent = tried-lent (start .pre .1) (start .pre .0) (at-loop .loop .inv .1) in
     (lent, start .pre .1, omega (arith, turned .turn .ensures, below))
 
-later-requires : tie.Need-later-requires Inv-loop μ-loop
-later-requires c κs = tt
-
-add-i : tie.Need-add-i Inv-loop μ-loop
-add-i c = omega arith
-
-loop-less : tie.Need-loop-less Inv-loop μ-loop
-loop-less c = omega arith
-
 loop-again : tie.Need-loop-again Inv-loop μ-loop
 loop-again c =
     let stepped = c .before .before .before in
@@ -69,9 +60,9 @@ sweep-spec =
     loop-holds
     turn-requires
     step-requires
-    later-requires
-    add-i
-    loop-less
+    (λ c κs. tt)
+    (λ c. omega arith)
+    (λ c. omega arith)
     loop-again
     same-length
     returns)

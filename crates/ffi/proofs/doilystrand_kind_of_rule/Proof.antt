@@ -9,12 +9,6 @@ use Rattle.ffi.specs.Coded.{code}
 use Rattle.ffi.proofs.doilystrand_kind_of_rule.Statement.{statement}
 use Rattle.ffi.proofs.doilystrand_kind_of_rule.Tie as tie
 
-kind-of-rule-requires : tie.Need-kind-of-rule-requires
-kind-of-rule-requires c κs = search needs
-
-code-of-requires : tie.Need-code-of-requires
-code-of-requires c κs = search needs
-
 -- a kind is the one of the kinds that it says
 said : (k : Kind) → k ≡ kindFor (says k allRuns) (says k someRun)
 said AllRuns = refl
@@ -32,4 +26,4 @@ returns c =
     }
 
 pub doilystrand-kind-of-rule-spec : {M : Type 1} → statement M
-doilystrand-kind-of-rule-spec = tie.close (tie.spec kind-of-rule-requires code-of-requires returns)
+doilystrand-kind-of-rule-spec = tie.close (tie.spec (λ c κs. search needs) (λ c κs. search needs) returns)

@@ -3,30 +3,6 @@ use borrow.Author.Needs.{needs}
 use Rattle.fill.proofs.based.Statement.{statement}
 use Rattle.fill.proofs.based.Tie as tie
 
-enum-known-base : tie.Need-enum-known-base
-enum-known-base c = search needs
-
-either-requires : tie.Need-either-requires
-either-requires c κs = search needs
-
-enum-told : tie.Need-enum-told
-enum-told c = search needs
-
-either-requires-2 : tie.Need-either-requires-2
-either-requires-2 c κs = search needs
-
-enum-known-base-2 : tie.Need-enum-known-base-2
-enum-known-base-2 c = search needs
-
-either-requires-3 : tie.Need-either-requires-3
-either-requires-3 c κs = search needs
-
-enum-known-base-3 : tie.Need-enum-known-base-3
-enum-known-base-3 c = search needs
-
-either-requires-4 : tie.Need-either-requires-4
-either-requires-4 c κs = search needs
-
 returns : tie.Need-returns
 returns c = rw (c .before .before .base .given .1) (c .either .ensures)
 
@@ -43,14 +19,14 @@ pub based-spec : {M : Type 1} → statement M
 based-spec =
     tie.close
     (tie.spec
-    enum-known-base
-    either-requires
-    enum-told
-    either-requires-2
-    enum-known-base-2
-    either-requires-3
-    enum-known-base-3
-    either-requires-4
+    (λ c. search needs)
+    (λ c κs. search needs)
+    (λ c. search needs)
+    (λ c κs. search needs)
+    (λ c. search needs)
+    (λ c κs. search needs)
+    (λ c. search needs)
+    (λ c κs. search needs)
     returns
     returns-2
     returns-3

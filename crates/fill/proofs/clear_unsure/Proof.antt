@@ -33,26 +33,11 @@ ends c =
 shared-slice-read-either : tie.Need-shared-slice-read-either Inv-loop μ-loop
 shared-slice-read-either c = omega (arith, ends (c .before))
 
-mul-either : tie.Need-mul-either Inv-loop μ-loop
-mul-either c = omega arith
-
 slice-read-either : tie.Need-slice-read-either Inv-loop μ-loop
 slice-read-either c = omega (arith, ends (c .before .before))
 
-either-requires : tie.Need-either-requires Inv-loop μ-loop
-either-requires c κs = tt
-
-mul-numbers : tie.Need-mul-numbers Inv-loop μ-loop
-mul-numbers c = omega arith
-
 slice-write-numbers : tie.Need-slice-write-numbers Inv-loop μ-loop
 slice-write-numbers c = omega (arith, ends (c .before .before .before))
-
-add-i : tie.Need-add-i Inv-loop μ-loop
-add-i c = omega arith
-
-loop-less : tie.Need-loop-less Inv-loop μ-loop
-loop-less c = omega arith
 
 loop-again : tie.Need-loop-again Inv-loop μ-loop
 loop-again c =
@@ -77,13 +62,13 @@ clear-unsure-spec =
     loop-holds
     arrow-at-requires
     shared-slice-read-either
-    mul-either
+    (λ c. omega arith)
     slice-read-either
-    either-requires
-    mul-numbers
+    (λ c κs. tt)
+    (λ c. omega arith)
     slice-write-numbers
-    add-i
-    loop-less
+    (λ c. omega arith)
+    (λ c. omega arith)
     loop-again
     same-length
     returns)

@@ -28,9 +28,6 @@ operands c =
     let n = start .args .n in
     (mul-le-mul-right n (start .pre .1), mul-le-mul-right n (start .pre .2))
 
-mul-at : tie.Need-mul-at Inv-loop μ-loop
-mul-at c = omega arith
-
 mul-left : tie.Need-mul-left Inv-loop μ-loop
 mul-left c = omega (arith, operands c)
 
@@ -51,24 +48,6 @@ add-q c = omega (arith, operands (c .before .before .before))
 
 slice-read-q : tie.Need-slice-read-q Inv-loop μ-loop
 slice-read-q c = omega (arith, operands (c .before .before .before .before))
-
-mixed-requires : tie.Need-mixed-requires Inv-loop μ-loop
-mixed-requires c κs = tt
-
-cast-marks : tie.Need-cast-marks Inv-loop μ-loop
-cast-marks c = tt
-
-add-marks : tie.Need-add-marks Inv-loop μ-loop
-add-marks c = omega arith
-
-slice-write-marks : tie.Need-slice-write-marks Inv-loop μ-loop
-slice-write-marks c = omega arith
-
-add-s : tie.Need-add-s Inv-loop μ-loop
-add-s c = omega arith
-
-loop-less : tie.Need-loop-less Inv-loop μ-loop
-loop-less c = omega arith
 
 loop-again : tie.Need-loop-again Inv-loop μ-loop
 loop-again c =
@@ -92,7 +71,7 @@ fill-spec =
     (tie.spec
     Inv-loop
     μ-loop
-    mul-at
+    (λ c. omega arith)
     mul-left
     mul-right
     loop-holds
@@ -100,12 +79,12 @@ fill-spec =
     slice-read-p
     add-q
     slice-read-q
-    mixed-requires
-    cast-marks
-    add-marks
-    slice-write-marks
-    add-s
-    loop-less
+    (λ c κs. tt)
+    (λ c. tt)
+    (λ c. omega arith)
+    (λ c. omega arith)
+    (λ c. omega arith)
+    (λ c. omega arith)
     loop-again
     same-length
     returns)

@@ -16,35 +16,8 @@ Inv-loop chart n i t marks₀ at s₀ marks s =
 abbrev μ-loop : tie.MeasureT-loop
 μ-loop chart n i t marks₀ at s₀ marks s = n - s
 
-mul-at : tie.Need-mul-at Inv-loop μ-loop
-mul-at c = omega arith
-
 loop-holds : tie.Need-loop-holds Inv-loop μ-loop
 loop-holds c = (omega arith, written-none)
-
-label-word-requires : tie.Need-label-word-requires Inv-loop μ-loop
-label-word-requires c κs = omega arith
-
-cast-marks : tie.Need-cast-marks Inv-loop μ-loop
-cast-marks c = omega arith
-
-shr-marks : tie.Need-shr-marks Inv-loop μ-loop
-shr-marks c = omega arith
-
-cast-marks-2 : tie.Need-cast-marks-2 Inv-loop μ-loop
-cast-marks-2 c = tt
-
-add-marks : tie.Need-add-marks Inv-loop μ-loop
-add-marks c = omega arith
-
-slice-write-marks : tie.Need-slice-write-marks Inv-loop μ-loop
-slice-write-marks c = omega arith
-
-add-s : tie.Need-add-s Inv-loop μ-loop
-add-s c = omega arith
-
-loop-less : tie.Need-loop-less Inv-loop μ-loop
-loop-less c = omega arith
 
 loop-again : tie.Need-loop-again Inv-loop μ-loop
 loop-again c =
@@ -65,16 +38,16 @@ fill-label-spec =
     (tie.spec
     Inv-loop
     μ-loop
-    mul-at
+    (λ c. omega arith)
     loop-holds
-    label-word-requires
-    cast-marks
-    shr-marks
-    cast-marks-2
-    add-marks
-    slice-write-marks
-    add-s
-    loop-less
+    (λ c κs. omega arith)
+    (λ c. omega arith)
+    (λ c. omega arith)
+    (λ c. tt)
+    (λ c. omega arith)
+    (λ c. omega arith)
+    (λ c. omega arith)
+    (λ c. omega arith)
     loop-again
     same-length
     returns)

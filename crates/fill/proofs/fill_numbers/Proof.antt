@@ -20,41 +20,8 @@ Inv-loop base n a b marks numbers₀ left right s₀ numbers s =
 abbrev μ-loop : tie.MeasureT-loop
 μ-loop base n a b marks numbers₀ left right s₀ numbers s = n - s
 
-mul-left : tie.Need-mul-left Inv-loop μ-loop
-mul-left c = omega arith
-
-mul-right : tie.Need-mul-right Inv-loop μ-loop
-mul-right c = omega arith
-
 loop-holds : tie.Need-loop-holds Inv-loop μ-loop
 loop-holds c = (omega arith, c .before .before .pre .0, below-none _)
-
-add-p : tie.Need-add-p Inv-loop μ-loop
-add-p c = omega arith
-
-shared-slice-read-p : tie.Need-shared-slice-read-p Inv-loop μ-loop
-shared-slice-read-p c = omega arith
-
-add-q : tie.Need-add-q Inv-loop μ-loop
-add-q c = omega arith
-
-shared-slice-read-q : tie.Need-shared-slice-read-q Inv-loop μ-loop
-shared-slice-read-q c = omega arith
-
-based-requires : tie.Need-based-requires Inv-loop μ-loop
-based-requires c κs = tt
-
-mul-numbers : tie.Need-mul-numbers Inv-loop μ-loop
-mul-numbers c = omega arith
-
-slice-write-numbers : tie.Need-slice-write-numbers Inv-loop μ-loop
-slice-write-numbers c = omega arith
-
-add-s : tie.Need-add-s Inv-loop μ-loop
-add-s c = omega arith
-
-loop-less : tie.Need-loop-less Inv-loop μ-loop
-loop-less c = omega arith
 
 loop-again : tie.Need-loop-again Inv-loop μ-loop
 loop-again c =
@@ -64,9 +31,6 @@ loop-again c =
       set-more (λ v. v) (loop .numbers) (loop .s) _ _ (λ v l e. omega arith) (omega arith) (c .based .ensures)
           (loop .inv .2),
     )
-
-same-length : tie.Need-same-length Inv-loop μ-loop
-same-length c = omega arith
 
 returns : tie.Need-returns Inv-loop μ-loop
 returns c =
@@ -79,18 +43,18 @@ fill-numbers-spec =
     (tie.spec
     Inv-loop
     μ-loop
-    mul-left
-    mul-right
+    (λ c. omega arith)
+    (λ c. omega arith)
     loop-holds
-    add-p
-    shared-slice-read-p
-    add-q
-    shared-slice-read-q
-    based-requires
-    mul-numbers
-    slice-write-numbers
-    add-s
-    loop-less
+    (λ c. omega arith)
+    (λ c. omega arith)
+    (λ c. omega arith)
+    (λ c. omega arith)
+    (λ c κs. tt)
+    (λ c. omega arith)
+    (λ c. omega arith)
+    (λ c. omega arith)
+    (λ c. omega arith)
     loop-again
-    same-length
+    (λ c. omega arith)
     returns)

@@ -15,35 +15,8 @@ Inv-loop above limit n t numbers marks₀ at s₀ marks s =
 abbrev μ-loop : tie.MeasureT-loop
 μ-loop above limit n t numbers marks₀ at s₀ marks s = n - s
 
-mul-at : tie.Need-mul-at Inv-loop μ-loop
-mul-at c = omega arith
-
 loop-holds : tie.Need-loop-holds Inv-loop μ-loop
 loop-holds c = (omega arith, written-none)
-
-mul-verdict : tie.Need-mul-verdict Inv-loop μ-loop
-mul-verdict c = omega arith
-
-shared-slice-read-verdict : tie.Need-shared-slice-read-verdict Inv-loop μ-loop
-shared-slice-read-verdict c = omega arith
-
-verdict-requires : tie.Need-verdict-requires Inv-loop μ-loop
-verdict-requires c κs = tt
-
-cast-marks : tie.Need-cast-marks Inv-loop μ-loop
-cast-marks c = tt
-
-add-marks : tie.Need-add-marks Inv-loop μ-loop
-add-marks c = omega arith
-
-slice-write-marks : tie.Need-slice-write-marks Inv-loop μ-loop
-slice-write-marks c = omega arith
-
-add-s : tie.Need-add-s Inv-loop μ-loop
-add-s c = omega arith
-
-loop-less : tie.Need-loop-less Inv-loop μ-loop
-loop-less c = omega arith
 
 loop-again : tie.Need-loop-again Inv-loop μ-loop
 loop-again c =
@@ -62,16 +35,16 @@ judge-spec =
     (tie.spec
     Inv-loop
     μ-loop
-    mul-at
+    (λ c. omega arith)
     loop-holds
-    mul-verdict
-    shared-slice-read-verdict
-    verdict-requires
-    cast-marks
-    add-marks
-    slice-write-marks
-    add-s
-    loop-less
+    (λ c. omega arith)
+    (λ c. omega arith)
+    (λ c κs. tt)
+    (λ c. tt)
+    (λ c. omega arith)
+    (λ c. omega arith)
+    (λ c. omega arith)
+    (λ c. omega arith)
     loop-again
     same-length
     returns)

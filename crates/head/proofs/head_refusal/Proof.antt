@@ -6,38 +6,14 @@ use Rattle.outcome.specs.Refusal.{first}
 use Rattle.head.proofs.head_refusal.Statement.{statement}
 use Rattle.head.proofs.head_refusal.Tie as tie
 
-refused-requires : tie.Need-refused-requires
-refused-requires c κs = search needs
-
 returns : tie.Need-returns
 unfolding first
 returns c = simp (lt-ltb _ _ (c .before .if1 .taken)) (c .refused .ensures)
-
-shared-slice-read-if2 : tie.Need-shared-slice-read-if2
-shared-slice-read-if2 c = search needs
-
-add-refused : tie.Need-add-refused
-add-refused c = search needs
-
-refused-requires-2 : tie.Need-refused-requires-2
-refused-requires-2 c κs = search needs
 
 returns-2 : tie.Need-returns-2
 unfolding first
 returns-2 c =
     simp (le-ltb _ _ (c .before .before .before .if1 .left), ne-eqb _ _ (c .before .if2 .taken)) (c .refused2 .ensures)
-
-be32-requires : tie.Need-be32-requires
-be32-requires c κs = search needs
-
-cast-stated : tie.Need-cast-stated
-cast-stated c = search needs
-
-add-refused-2 : tie.Need-add-refused-2
-add-refused-2 c = search needs
-
-refused-requires-3 : tie.Need-refused-requires-3
-refused-requires-3 c κs = search needs
 
 returns-3 : tie.Need-returns-3
 unfolding first
@@ -48,9 +24,6 @@ returns-3 c =
       eq-eqb _ _ (c .before .before .before .if2 .left),
       ne-eqb _ _ (λ e. c .before .if3 .taken (k ∙ e)),
     ) (c .refused3 .ensures)
-
-accepted-requires : tie.Need-accepted-requires
-accepted-requires c κs = search needs
 
 returns-4 : tie.Need-returns-4
 unfolding first
@@ -66,16 +39,16 @@ pub head-refusal-spec : {M : Type 1} → statement M
 head-refusal-spec =
     tie.close
     (tie.spec
-    refused-requires
+    (λ c κs. search needs)
     returns
-    shared-slice-read-if2
-    add-refused
-    refused-requires-2
+    (λ c. search needs)
+    (λ c. search needs)
+    (λ c κs. search needs)
     returns-2
-    be32-requires
-    cast-stated
-    add-refused-2
-    refused-requires-3
+    (λ c κs. search needs)
+    (λ c. search needs)
+    (λ c. search needs)
+    (λ c κs. search needs)
     returns-3
-    accepted-requires
+    (λ c κs. search needs)
     returns-4)

@@ -25,15 +25,6 @@ abbrev μ-loop : tie.MeasureT-loop
 loop-holds : tie.Need-loop-holds Inv-loop μ-loop
 loop-holds c = (omega arith, c .before .before .before .pre .3, led-none)
 
-mul-hint-of : tie.Need-mul-hint-of Inv-loop μ-loop
-mul-hint-of c = omega arith
-
-shared-slice-read-hint-of : tie.Need-shared-slice-read-hint-of Inv-loop μ-loop
-shared-slice-read-hint-of c = omega arith
-
-hint-of-requires : tie.Need-hint-of-requires Inv-loop μ-loop
-hint-of-requires c κs = tt
-
 returns : tie.Need-returns Inv-loop μ-loop
 returns c = λ e. absurd (false≢true e)
 
@@ -51,9 +42,6 @@ shared-slice-read-if3 c =
 
 returns-3 : tie.Need-returns-3 Inv-loop μ-loop
 returns-3 c = λ e. absurd (false≢true e)
-
-either-requires : tie.Need-either-requires Inv-loop μ-loop
-either-requires c κs = tt
 
 -- one arrow more
 more :
@@ -83,12 +71,6 @@ more c =
 returns-4 : tie.Need-returns-4 Inv-loop μ-loop
 returns-4 c = led-round (more (c .before) .1) (c .if4 .taken)
 
-add-k : tie.Need-add-k Inv-loop μ-loop
-add-k c = omega arith
-
-loop-less : tie.Need-loop-less Inv-loop μ-loop
-loop-less c = omega arith
-
 loop-again : tie.Need-loop-again Inv-loop μ-loop
 loop-again c = (omega arith, more (c .before) .0, more (c .before) .1)
 
@@ -102,17 +84,17 @@ circles-spec =
     Inv-loop
     μ-loop
     loop-holds
-    mul-hint-of
-    shared-slice-read-hint-of
-    hint-of-requires
+    (λ c. omega arith)
+    (λ c. omega arith)
+    (λ c κs. tt)
     returns
     arrow-at-requires
     returns-2
     shared-slice-read-if3
     returns-3
-    either-requires
+    (λ c κs. tt)
     returns-4
-    add-k
-    loop-less
+    (λ c. omega arith)
+    (λ c. omega arith)
     loop-again
     returns-5)

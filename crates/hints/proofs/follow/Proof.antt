@@ -16,27 +16,12 @@ abbrev μ-loop : tie.MeasureT-loop
 loop-holds : tie.Need-loop-holds Inv-loop μ-loop
 loop-holds c = (omega arith, c .before .before .pre .2)
 
-mul-hint-of : tie.Need-mul-hint-of Inv-loop μ-loop
-mul-hint-of c = omega arith
-
-shared-slice-read-hint-of : tie.Need-shared-slice-read-hint-of Inv-loop μ-loop
-shared-slice-read-hint-of c = omega arith
-
-hint-of-requires : tie.Need-hint-of-requires Inv-loop μ-loop
-hint-of-requires c κs = tt
-
 returns : tie.Need-returns Inv-loop μ-loop
 returns c = c .before .before .before .before .loop .inv .1
 
 arrow-at-requires : tie.Need-arrow-at-requires Inv-loop μ-loop
 arrow-at-requires c κs =
     arrow-inside (shaped (c .before .before .before .before .before .before .before .pre .0)) (c .if1 .left)
-
-add-k : tie.Need-add-k Inv-loop μ-loop
-add-k c = omega arith
-
-loop-less : tie.Need-loop-less Inv-loop μ-loop
-loop-less c = omega arith
 
 loop-again : tie.Need-loop-again Inv-loop μ-loop
 loop-again c =
@@ -55,12 +40,12 @@ follow-spec =
     Inv-loop
     μ-loop
     loop-holds
-    mul-hint-of
-    shared-slice-read-hint-of
-    hint-of-requires
+    (λ c. omega arith)
+    (λ c. omega arith)
+    (λ c κs. tt)
     returns
     arrow-at-requires
-    add-k
-    loop-less
+    (λ c. omega arith)
+    (λ c. omega arith)
     loop-again
     returns-2)

@@ -60,17 +60,21 @@ all-runs-node :
     (t : ℕ) (c : all-runs-lts.After-node-at (all-runs-calls t) (all-runs-at t) all-runs.Post) →
     Node (now (c .before .before .args .rule)) (c .before .before .args .t) (c .node-at .result)
 all-runs-node t c =
-    record { accepted = c .before .before .pre .1 .0; low = c .before .before .pre .1 .1; read = c .node-at .ensures .0 }
+    let p = c .before .before .pre .1 in
+    record { accepted = p .0; low = p .1; read = c .node-at .ensures .0 }
 
 all-runs-asks :
-    (t : ℕ) (c : all-runs-lts.After-node-at (all-runs-calls t) (all-runs-at t) all-runs.Post) {v : ℕ} → v < c .before .before .args .t →
+    (t : ℕ) (c : all-runs-lts.After-node-at (all-runs-calls t) (all-runs-at t) all-runs.Post) {v : ℕ} →
+    v < c .before .before .args .t →
     (v < t) ×
-    ((ruleRefusal (now (c .before .before .args .rule)) .number ≡ 0) × (v < nodeCount (now (c .before .before .args .rule))))
+    let s = now (c .before .before .args .rule) in
+    ((ruleRefusal s .number ≡ 0) × (v < nodeCount s))
 all-runs-asks t c h =
     let w = c .before .before in
     (omega (arith, h, w .pre .0), (w .pre .1 .0, omega (arith, h, w .pre .1 .1)))
 
-all-runs-node-at-requires : (t : ℕ) → all-runs-lts.Need-node-at-requires (all-runs-calls t) (all-runs-at t) all-runs.Post
+all-runs-node-at-requires :
+    (t : ℕ) → all-runs-lts.Need-node-at-requires (all-runs-calls t) (all-runs-at t) all-runs.Post
 all-runs-node-at-requires t c κs =
     let h = rule.accepted (now (c .before .args .rule)) (c .before .pre .1 .0) .shape in
     omega (arith, h .whole, c .before .pre .1 .1)
@@ -78,7 +82,8 @@ all-runs-node-at-requires t c κs =
 all-runs-returns : (t : ℕ) → all-runs-lts.Need-returns (all-runs-calls t) (all-runs-at t) all-runs.Post
 all-runs-returns t c = leaf-returns (all-runs-node t (c .before .before)) allRuns (c .if1 .taken)
 
-all-runs-some-run-requires : (t : ℕ) → all-runs-lts.Need-some-run-requires (all-runs-calls t) (all-runs-at t) all-runs.Post
+all-runs-some-run-requires :
+    (t : ℕ) → all-runs-lts.Need-some-run-requires (all-runs-calls t) (all-runs-at t) all-runs.Post
 all-runs-some-run-requires t c κs =
     all-runs-asks t (c .before .before .before .before)
     (a-lower (all-runs-node t (c .before .before .before .before)) (omega arith))
@@ -92,12 +97,14 @@ all-runs-returns-3 : (t : ℕ) → all-runs-lts.Need-returns-3 (all-runs-calls t
 all-runs-returns-3 t c =
     until-returns (all-runs-node t (c .before .before .before .before .before .before)) allRuns (c .if3 .taken)
 
-all-runs-all-runs-requires : (t : ℕ) → all-runs-lts.Need-all-runs-requires (all-runs-calls t) (all-runs-at t) all-runs.Post
+all-runs-all-runs-requires :
+    (t : ℕ) → all-runs-lts.Need-all-runs-requires (all-runs-calls t) (all-runs-at t) all-runs.Post
 all-runs-all-runs-requires t c κs =
     all-runs-asks t (c .before .before .before .before .before .before)
     (a-lower (all-runs-node t (c .before .before .before .before .before .before)) (omega arith))
 
-all-runs-all-runs-requires-2 : (t : ℕ) → all-runs-lts.Need-all-runs-requires-2 (all-runs-calls t) (all-runs-at t) all-runs.Post
+all-runs-all-runs-requires-2 :
+    (t : ℕ) → all-runs-lts.Need-all-runs-requires-2 (all-runs-calls t) (all-runs-at t) all-runs.Post
 all-runs-all-runs-requires-2 t c κs =
     all-runs-asks t (c .before .before .before .before .before .before .before .before)
     (b-lower (all-runs-node t (c .before .before .before .before .before .before .before .before)) (omega arith))
@@ -120,17 +127,21 @@ some-run-node :
     (t : ℕ) (c : some-run-lts.After-node-at (some-run-calls t) (some-run-at t) some-run.Post) →
     Node (now (c .before .before .args .rule)) (c .before .before .args .t) (c .node-at .result)
 some-run-node t c =
-    record { accepted = c .before .before .pre .1 .0; low = c .before .before .pre .1 .1; read = c .node-at .ensures .0 }
+    let p = c .before .before .pre .1 in
+    record { accepted = p .0; low = p .1; read = c .node-at .ensures .0 }
 
 some-run-asks :
-    (t : ℕ) (c : some-run-lts.After-node-at (some-run-calls t) (some-run-at t) some-run.Post) {v : ℕ} → v < c .before .before .args .t →
+    (t : ℕ) (c : some-run-lts.After-node-at (some-run-calls t) (some-run-at t) some-run.Post) {v : ℕ} →
+    v < c .before .before .args .t →
     (v < t) ×
-    ((ruleRefusal (now (c .before .before .args .rule)) .number ≡ 0) × (v < nodeCount (now (c .before .before .args .rule))))
+    let s = now (c .before .before .args .rule) in
+    ((ruleRefusal s .number ≡ 0) × (v < nodeCount s))
 some-run-asks t c h =
     let w = c .before .before in
     (omega (arith, h, w .pre .0), (w .pre .1 .0, omega (arith, h, w .pre .1 .1)))
 
-some-run-node-at-requires : (t : ℕ) → some-run-lts.Need-node-at-requires (some-run-calls t) (some-run-at t) some-run.Post
+some-run-node-at-requires :
+    (t : ℕ) → some-run-lts.Need-node-at-requires (some-run-calls t) (some-run-at t) some-run.Post
 some-run-node-at-requires t c κs =
     let h = rule.accepted (now (c .before .args .rule)) (c .before .pre .1 .0) .shape in
     omega (arith, h .whole, c .before .pre .1 .1)
@@ -138,7 +149,8 @@ some-run-node-at-requires t c κs =
 some-run-returns : (t : ℕ) → some-run-lts.Need-returns (some-run-calls t) (some-run-at t) some-run.Post
 some-run-returns t c = leaf-returns (some-run-node t (c .before .before)) someRun (c .if1 .taken)
 
-some-run-all-runs-requires : (t : ℕ) → some-run-lts.Need-all-runs-requires (some-run-calls t) (some-run-at t) some-run.Post
+some-run-all-runs-requires :
+    (t : ℕ) → some-run-lts.Need-all-runs-requires (some-run-calls t) (some-run-at t) some-run.Post
 some-run-all-runs-requires t c κs =
     some-run-asks t (c .before .before .before .before)
     (a-lower (some-run-node t (c .before .before .before .before)) (omega arith))
@@ -152,12 +164,14 @@ some-run-returns-3 : (t : ℕ) → some-run-lts.Need-returns-3 (some-run-calls t
 some-run-returns-3 t c =
     until-returns (some-run-node t (c .before .before .before .before .before .before)) someRun (c .if3 .taken)
 
-some-run-some-run-requires : (t : ℕ) → some-run-lts.Need-some-run-requires (some-run-calls t) (some-run-at t) some-run.Post
+some-run-some-run-requires :
+    (t : ℕ) → some-run-lts.Need-some-run-requires (some-run-calls t) (some-run-at t) some-run.Post
 some-run-some-run-requires t c κs =
     some-run-asks t (c .before .before .before .before .before .before)
     (a-lower (some-run-node t (c .before .before .before .before .before .before)) (omega arith))
 
-some-run-some-run-requires-2 : (t : ℕ) → some-run-lts.Need-some-run-requires-2 (some-run-calls t) (some-run-at t) some-run.Post
+some-run-some-run-requires-2 :
+    (t : ℕ) → some-run-lts.Need-some-run-requires-2 (some-run-calls t) (some-run-at t) some-run.Post
 some-run-some-run-requires-2 t c κs =
     some-run-asks t (c .before .before .before .before .before .before .before .before)
     (b-lower (some-run-node t (c .before .before .before .before .before .before .before .before)) (omega arith))

@@ -21,9 +21,6 @@ passed c = ap (λ o. o .number) (sym (c .before .before .rule-refusal .ensures))
 shape : (c : tie.Else1) → let s = now (c .before .before .before .before .args .rule) in Shape s (nodeCount s)
 shape c = rule.accepted _ (passed c) .shape
 
-rule-refusal-requires : tie.Need-rule-refusal-requires
-rule-refusal-requires c κs = search needs
-
 returns : tie.Need-returns
 returns c =
     refused (now (c .before .before .before .before .args .rule)) (c .before .before .rule-refusal .ensures)
@@ -41,9 +38,6 @@ all-runs-requires c κs = let h = shape (c .before) in (passed (c .before), omeg
 some-run-requires : tie.Need-some-run-requires
 some-run-requires c κs = let h = shape (c .before .before) in (passed (c .before .before), omega (arith, h .some-nodes))
 
-kind-for-requires : tie.Need-kind-for-requires
-kind-for-requires c κs = search needs
-
 returns-2 : tie.Need-returns-2
 returns-2 c =
     let s = now (c .before .before .before .before .before .before .before .before .args .rule) in
@@ -58,11 +52,11 @@ pub kind-of-rule-spec : {M : Type 1} → statement M
 kind-of-rule-spec =
     tie.close
     (tie.spec
-    rule-refusal-requires
+    (λ c κs. search needs)
     returns
     node-count-requires
     sub-last
     all-runs-requires
     some-run-requires
-    kind-for-requires
+    (λ c κs. search needs)
     returns-2)

@@ -22,15 +22,6 @@ loop-holds : tie.Need-loop-holds Inv-loop μ-loop
 unfolding markLine
 loop-holds c = (omega arith, joined-none _)
 
-add-mark : tie.Need-add-mark Inv-loop μ-loop
-add-mark c = omega arith
-
-shared-slice-read-mark : tie.Need-shared-slice-read-mark Inv-loop μ-loop
-shared-slice-read-mark c = omega arith
-
-mark-requires : tie.Need-mark-requires Inv-loop μ-loop
-mark-requires c κs = search needs
-
 put-requires : tie.Need-put-requires Inv-loop μ-loop
 unfolding markLine
 put-requires c κs =
@@ -39,12 +30,6 @@ put-requires c κs =
     let loop = at-loop .loop in
     let below = c .before .before .before .loop-test .taken in
     rw (c .before .mark .ensures) (joined-room _ (loop .s) (start .args .n) (loop .inv .1) below (start .pre .1))
-
-add-s : tie.Need-add-s Inv-loop μ-loop
-add-s c = omega arith
-
-loop-less : tie.Need-loop-less Inv-loop μ-loop
-loop-less c = omega arith
 
 loop-again : tie.Need-loop-again Inv-loop μ-loop
 unfolding markLine
@@ -73,12 +58,12 @@ put-marks-spec =
     Inv-loop
     μ-loop
     loop-holds
-    add-mark
-    shared-slice-read-mark
-    mark-requires
+    (λ c. omega arith)
+    (λ c. omega arith)
+    (λ c κs. search needs)
     put-requires
-    add-s
-    loop-less
+    (λ c. omega arith)
+    (λ c. omega arith)
     loop-again
     same-length
     returns)

@@ -22,9 +22,6 @@ put-requires c κs =
     let rooms = room-parts (decimal (a .t)) space (markLine (a .n) (now (a .marks)) _) newline (start .pre .1) in
     room-second space (numbered .put-number .ensures) (rooms .1)
 
-mul-put-marks : tie.Need-mul-put-marks
-mul-put-marks c = search needs
-
 put-marks-requires : tie.Need-put-marks-requires
 unfolding nodeLine
 put-marks-requires c κs =
@@ -46,9 +43,6 @@ put-requires-2 c κs =
     let done = appended-both (numbered .put-number .ensures) (spaced .put .ensures) in
     room-second newline (appended-both done (marked .put-marks .ensures)) (start .pre .1)
 
-same-length : tie.Need-same-length
-same-length c = search needs
-
 returns : tie.Need-returns
 unfolding nodeLine
 returns c =
@@ -65,8 +59,8 @@ put-node-spec =
     (tie.spec
     put-number-requires
     put-requires
-    mul-put-marks
+    (λ c. search needs)
     put-marks-requires
     put-requires-2
-    same-length
+    (λ c. search needs)
     returns)

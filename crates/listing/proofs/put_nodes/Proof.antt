@@ -31,12 +31,6 @@ put-node-requires c κs =
       joined-room (nodeLine (a .n) (now (a .marks))) (loop .t) (a .k) (loop .inv .1) below (start .pre .1),
     )
 
-add-t : tie.Need-add-t Inv-loop μ-loop
-add-t c = omega arith
-
-loop-less : tie.Need-loop-less Inv-loop μ-loop
-loop-less c = omega arith
-
 loop-again : tie.Need-loop-again Inv-loop μ-loop
 loop-again c =
     let put = c .before .before in
@@ -62,8 +56,8 @@ put-nodes-spec =
     μ-loop
     loop-holds
     put-node-requires
-    add-t
-    loop-less
+    (λ c. omega arith)
+    (λ c. omega arith)
     loop-again
     same-length
     returns)

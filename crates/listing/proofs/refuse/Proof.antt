@@ -1,40 +1,41 @@
--- The line of two numbers, for which there is room.
+-- Two numbers and the end of the line, for which there is room.
 use borrow.Author.Needs.{needs}
-use Rattle.listing.specs.Text.{refusedLine}
-use Rattle.listing.proofs.Append.{shown}
+use denote.Ref.{now}
+use Rattle.listing.specs.Text.{newline, refusedLine}
+use Rattle.listing.specs.Piece.{Room}
+use Rattle.listing.proofs.Append.{appended-both, room-first, room-second, shown}
 use Rattle.listing.proofs.Sizes.{refused-room}
 use Rattle.listing.proofs.refuse.Statement.{statement}
 use Rattle.listing.proofs.refuse.Tie as tie
 
-slice-aggregate-put-numbers : tie.Need-slice-aggregate-put-numbers
-slice-aggregate-put-numbers c = search needs
-
-slice-aggregate-put-numbers-2 : tie.Need-slice-aggregate-put-numbers-2
-slice-aggregate-put-numbers-2 c = search needs
+room : (s : tie.Start) → Room 0 (refusedLine (s .args .number) (s .args .place)) (now (s .args .out))
+room s = refused-room _ _ _ (s .fits .number .fits) (s .fits .place .fits) (s .pre)
 
 put-numbers-requires : tie.Need-put-numbers-requires
 unfolding refusedLine
-put-numbers-requires c κs =
-    let start = c .before .before .before .before in
-    refused-room _ _ _ (start .fits .number .fits) (start .fits .place .fits) (start .pre)
+put-numbers-requires c κs = room-first _ newline (room (c .before .before .before .before))
 
-same-length : tie.Need-same-length
-same-length c = search needs
+put-requires : tie.Need-put-requires
+unfolding refusedLine
+put-requires c κs =
+    let numbers = c .before .before .before in
+    room-second _ (numbers .put-numbers .ensures) (room (numbers .before .before .before .before .before))
 
 returns : tie.Need-returns
 unfolding refusedLine
 returns c =
     let line = c .before .before in
-    let start = line .before .before .before .before .before in
-    shown (refused-room _ _ _ (start .fits .number .fits) (start .fits .place .fits) (start .pre))
-    (line .put-numbers .ensures)
+    let numbers = line .before .before .before .before in
+    shown (room (numbers .before .before .before .before .before))
+    (appended-both (numbers .put-numbers .ensures) (line .put .ensures))
 
 pub refuse-spec : {M : Type 1} → statement M
 refuse-spec =
     tie.close
     (tie.spec
-    slice-aggregate-put-numbers
-    slice-aggregate-put-numbers-2
+    (λ c. search needs)
+    (λ c. search needs)
     put-numbers-requires
-    same-length
+    put-requires
+    (λ c. search needs)
     returns)

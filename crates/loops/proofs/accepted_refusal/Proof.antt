@@ -1,13 +1,11 @@
 -- Checks 1 to 9, then row 19 on the first n numbers of a local array.
 use mathlib.Core.Path.{sym}
 use native.Mathlib.Omega.{arith}
+use lib.Seq.{length-take-le}
 use borrow.Author.Needs.{needs}
-use Rattle.loops.proofs.Chain.{prefix-size, chart-refuses, chart-whole, chart-small, chart-counted, loop-next}
+use Rattle.loops.proofs.Chain.{chart-refuses, chart-whole, chart-small, chart-counted, loop-next}
 use Rattle.loops.proofs.accepted_refusal.Statement.{statement}
 use Rattle.loops.proofs.accepted_refusal.Tie as tie
-
-chart-refusal-requires : tie.Need-chart-refusal-requires
-chart-refusal-requires c κs = search needs
 
 returns : tie.Need-returns
 returns c = chart-refuses _ (c .before .before .chart-refusal .ensures) (c .if1 .taken)
@@ -31,7 +29,7 @@ slice-aggregate-loop-refusal c =
     let passed = counted .before in
     let n = counted .state-count in
     let small = chart-small _ (passed .before .before .chart-refusal .ensures) (passed .if1 .left) in
-    sym (prefix-size (n .result) _ (omega (arith, small, n .ensures .0)))
+    sym (length-take-le (n .result) _ (omega (arith, small, n .ensures .0)))
 
 loop-refusal-requires : tie.Need-loop-refusal-requires
 loop-refusal-requires c κs =
@@ -42,7 +40,7 @@ loop-refusal-requires c κs =
     let n = counted .state-count in
     let small = chart-small _ e z in (
       chart-counted _ e z (n .ensures .0) (c .before .arrow-count .ensures .0),
-      prefix-size (n .result) _ (omega (arith, small, n .ensures .0)),
+      length-take-le (n .result) _ (omega (arith, small, n .ensures .0)),
     )
 
 returns-2 : tie.Need-returns-2
@@ -54,7 +52,7 @@ pub accepted-refusal-spec : {M : Type 1} → statement M
 accepted-refusal-spec =
     tie.close
     (tie.spec
-    chart-refusal-requires
+    (λ c κs. search needs)
     returns
     state-count-requires
     arrow-count-requires

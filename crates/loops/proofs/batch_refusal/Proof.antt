@@ -55,9 +55,6 @@ cast-refused c =
     let p = c .before .before .before .before .before .before .before .before .before .before .pre in
     omega (arith, shaped (p .0) .few-states, p .2 .inside)
 
-refused-requires : tie.Need-refused-requires Inv-loop μ-loop
-refused-requires c κs = tt
-
 same-length : tie.Need-same-length Inv-loop μ-loop
 same-length c = c .before .before .before .before .before .before .before .climb-from-zero .kept .1 .1 .1 .1 .0
 
@@ -73,12 +70,6 @@ returns c =
     c .refused .ensures ∙
     search-found 19 (record { inside = in-loop .loop-test .taken; offends = on; under = loop .inv .1 })
 
-add-g : tie.Need-add-g Inv-loop μ-loop
-add-g c = omega arith
-
-loop-less : tie.Need-loop-less Inv-loop μ-loop
-loop-less c = omega arith
-
 loop-again : tie.Need-loop-again Inv-loop μ-loop
 loop-again c =
     let in-loop = c .before .before in
@@ -89,9 +80,6 @@ loop-again c =
     own-bit-clear (now (start .args .chart)) (climbed .climb-from-zero .ensures) (loop .g) (loop .inv .0)
     (omega (arith, start .pre .2 .few, in-loop .loop-test .taken)) (c .if1 .left) in
     (omega (arith, loop .inv .0), below-more _ (loop .g) (loop .inv .1) off)
-
-accepted-requires : tie.Need-accepted-requires Inv-loop μ-loop
-accepted-requires c κs = tt
 
 same-length-2 : tie.Need-same-length-2 Inv-loop μ-loop
 same-length-2 c = c .before .before .before .before .before .climb-from-zero .kept .1 .1 .1 .1 .0
@@ -113,12 +101,12 @@ batch-refusal-spec =
     cast-if1
     shr-if1
     cast-refused
-    refused-requires
+    (λ c κs. tt)
     same-length
     returns
-    add-g
-    loop-less
+    (λ c. omega arith)
+    (λ c. omega arith)
     loop-again
-    accepted-requires
+    (λ c κs. tt)
     same-length-2
     returns-2)

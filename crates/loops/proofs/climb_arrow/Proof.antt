@@ -25,9 +25,6 @@ raise-requires c κs =
     let g = ap (λ (w : ArrowWords). w .end) e in
     ((omega (arith, x .0, p .2 .size), omega (arith, x .1, p .2 .size)), p .2 .capped)
 
-same-length : tie.Need-same-length
-same-length c = search needs
-
 returns-2 : tie.Need-returns-2
 returns-2 c =
     let raised = c .before .before in
@@ -39,4 +36,4 @@ returns-2 c =
 
 pub climb-arrow-spec : {M : Type 1} → statement M
 climb-arrow-spec =
-    tie.close (tie.spec arrow-at-requires returns raise-requires same-length returns-2)
+    tie.close (tie.spec arrow-at-requires returns raise-requires (λ c. search needs) returns-2)

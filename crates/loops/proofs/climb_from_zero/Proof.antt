@@ -15,9 +15,6 @@ Inv-loop search chart n m numbers₀ numbers = Climbs (chartOf chart) search num
 abbrev μ-loop : tie.MeasureT-loop
 μ-loop search chart n m numbers₀ numbers = room search numbers
 
-clear-requires : tie.Need-clear-requires Inv-loop μ-loop
-clear-requires c κs = tt
-
 loop-holds : tie.Need-loop-holds Inv-loop μ-loop
 loop-holds c = same
 
@@ -64,7 +61,7 @@ climb-from-zero-spec =
     (tie.spec
     Inv-loop
     μ-loop
-    clear-requires
+    (λ c κs. tt)
     loop-holds
     climb-round-requires
     loop-less

@@ -34,12 +34,6 @@ add-raised c =
     let p = at-loop .before .before .before .pre in
     omega (arith, inv .0, inv .1 .few, climbed .climb-arrow .ensures .few, shaped (p .0) .few-arrows)
 
-add-i : tie.Need-add-i Inv-loop μ-loop
-add-i c = omega arith
-
-loop-less : tie.Need-loop-less Inv-loop μ-loop
-loop-less c = omega arith
-
 loop-again : tie.Need-loop-again Inv-loop μ-loop
 loop-again c =
     let climbed = c .before .before in
@@ -65,8 +59,8 @@ climb-round-spec =
     loop-holds
     climb-arrow-requires
     add-raised
-    add-i
-    loop-less
+    (λ c. omega arith)
+    (λ c. omega arith)
     loop-again
     same-length
     returns)

@@ -5,24 +5,6 @@ use Rattle.loops.proofs.Row.{row-not-found}
 use Rattle.loops.proofs.loop_refusal.Statement.{statement}
 use Rattle.loops.proofs.loop_refusal.Tie as tie
 
-some-loop-requires : tie.Need-some-loop-requires
-some-loop-requires c κs = search needs
-
-lowest-on-loop-requires : tie.Need-lowest-on-loop-requires
-lowest-on-loop-requires c κs = search needs
-
-same-length : tie.Need-same-length
-same-length c = search needs
-
-returns : tie.Need-returns
-returns c = search needs
-
-accepted-requires : tie.Need-accepted-requires
-accepted-requires c κs = search needs
-
-same-length-2 : tie.Need-same-length-2
-same-length-2 c = search needs
-
 returns-2 : tie.Need-returns-2
 returns-2 c =
     let looked = c .before .before .before .before in
@@ -34,10 +16,10 @@ pub loop-refusal-spec : {M : Type 1} → statement M
 loop-refusal-spec =
     tie.close
     (tie.spec
-    some-loop-requires
-    lowest-on-loop-requires
-    same-length
-    returns
-    accepted-requires
-    same-length-2
+    (λ c κs. search needs)
+    (λ c κs. search needs)
+    (λ c. search needs)
+    (λ c. search needs)
+    (λ c κs. search needs)
+    (λ c. search needs)
     returns-2)

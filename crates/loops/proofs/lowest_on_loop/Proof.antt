@@ -25,9 +25,6 @@ loop-holds c = (omega arith, refl, below-none _)
 add-lesser : tie.Need-add-lesser Inv-loop μ-loop
 add-lesser c = omega (arith, shaped (c .before .before .before .before .pre .0) .few-states)
 
-lesser-requires : tie.Need-lesser-requires Inv-loop μ-loop
-lesser-requires c κs = tt
-
 batch-refusal-requires : tie.Need-batch-refusal-requires Inv-loop μ-loop
 batch-refusal-requires c κs =
     let inv = c .before .before .before .loop .inv in
@@ -63,9 +60,6 @@ loop-again c =
       batch-passed (p .0) (batch .batch-refusal .ensures) (c .if1 .left),
     )
 
-accepted-requires : tie.Need-accepted-requires Inv-loop μ-loop
-accepted-requires c κs = tt
-
 same-length-2 : tie.Need-same-length-2 Inv-loop μ-loop
 same-length-2 c = c .before .before .loop .inv .1
 
@@ -83,12 +77,12 @@ lowest-on-loop-spec =
     μ-loop
     loop-holds
     add-lesser
-    lesser-requires
+    (λ c κs. tt)
     batch-refusal-requires
     same-length
     returns
     loop-less
     loop-again
-    accepted-requires
+    (λ c κs. tt)
     same-length-2
     returns-2)

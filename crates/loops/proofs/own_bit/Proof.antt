@@ -12,16 +12,10 @@ returns c = simp (lt-ltb _ _ (c .if1 .taken))
 returns-2 : tie.Need-returns-2
 returns-2 c = simp (le-ltb _ _ (c .before .if1 .left), le-leb _ _ (c .if2 .taken))
 
-cast-result : tie.Need-cast-result
-cast-result c = search needs
-
-shl-result : tie.Need-shl-result
-shl-result c = search needs
-
 returns-3 : tie.Need-returns-3
 returns-3 c =
     let a = c .before .before .args in
     simp (le-ltb _ _ (c .before .if1 .left), lt-leb _ _ (c .if2 .left)) (shift-bit (a .e - a .base) (c .if2 .left))
 
 pub own-bit-spec : {M : Type 1} → statement M
-own-bit-spec = tie.close (tie.spec returns returns-2 cast-result shl-result returns-3)
+own-bit-spec = tie.close (tie.spec returns returns-2 (λ c. search needs) (λ c. search needs) returns-3)

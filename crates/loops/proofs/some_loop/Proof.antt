@@ -46,12 +46,6 @@ returns c =
     loop-found (now (start .args .chart)) (start .pre .0) (climbed .climb-from-zero .ensures) (in-loop .before .loop .s)
     (in-loop .loop-test .taken) (c .if1 .taken)
 
-add-s : tie.Need-add-s Inv-loop μ-loop
-add-s c = omega arith
-
-loop-less : tie.Need-loop-less Inv-loop μ-loop
-loop-less c = omega arith
-
 loop-again : tie.Need-loop-again Inv-loop μ-loop
 loop-again c =
     let loop = c .before .before .before .loop in
@@ -80,8 +74,8 @@ some-loop-spec =
     slice-read-if1
     same-length
     returns
-    add-s
-    loop-less
+    (λ c. omega arith)
+    (λ c. omega arith)
     loop-again
     same-length-2
     returns-2)

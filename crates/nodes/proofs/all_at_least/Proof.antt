@@ -8,27 +8,12 @@ use Rattle.nodes.proofs.Untils.{all-at-least}
 use Rattle.nodes.proofs.all_at_least.Statement.{statement}
 use Rattle.nodes.proofs.all_at_least.Tie as tie
 
-sure-start-requires : tie.Need-sure-start-requires
-sure-start-requires c κs = search needs
-
 descend-requires : tie.Need-descend-requires
 descend-requires c κs =
     let sure = c .before .before .before .before .before .before in
     let p = sure .before .before .before .before .before .before .pre in
     let vs = sure-numbered _ _ _ _ _ (sure .sure-start .ensures .1) (omega (arith, p .1 .0)) in
     ((p .0 .0 .passed, omega (arith, sure .sure-start .ensures .0 .size, p .0 .0 .table)), (p .0 .1, vs))
-
-sub-judge : tie.Need-sub-judge
-sub-judge c = search needs
-
-judge-requires : tie.Need-judge-requires
-judge-requires c κs = search needs
-
-same-length : tie.Need-same-length
-same-length c = search needs
-
-same-length-2 : tie.Need-same-length-2
-same-length-2 c = search needs
 
 returns : tie.Need-returns
 unfolding sureStart
@@ -46,10 +31,10 @@ pub all-at-least-spec : {M : Type 1} → statement M
 all-at-least-spec =
     tie.close
     (tie.spec
-    sure-start-requires
+    (λ c κs. search needs)
     descend-requires
-    sub-judge
-    judge-requires
-    same-length
-    same-length-2
+    (λ c. search needs)
+    (λ c κs. search needs)
+    (λ c. search needs)
+    (λ c. search needs)
     returns)

@@ -11,24 +11,6 @@ fill-numbers-requires c κs =
     let p = c .before .before .before .before .before .pre in
     rows-inside _ (p .0 .1) (p .0 .0 .size) (p .0 .0 .table)
 
-fill-requires : tie.Need-fill-requires
-fill-requires c κs = search needs
-
-mul-at : tie.Need-mul-at
-mul-at c = search needs
-
-add-end : tie.Need-add-end
-add-end c = search needs
-
-sub-greatest : tie.Need-sub-greatest
-sub-greatest c = search needs
-
-part-greatest-start : tie.Need-part-greatest-start
-part-greatest-start c = search needs
-
-part-greatest-end : tie.Need-part-greatest-end
-part-greatest-end c = search needs
-
 greatest-requires : tie.Need-greatest-requires
 greatest-requires c κs =
     let filled = c .before .before .before .before .before in
@@ -36,12 +18,6 @@ greatest-requires c κs =
     let p = based .before .before .before .before .before .before .pre in
     let vs = numbered (based .fill-numbers .ensures) (λ s. p .1 .1 _ _) in
     (record { passed = p .0 .0 .passed; row = search needs; numbers = vs }, p .1 .0)
-
-same-length : tie.Need-same-length
-same-length c = search needs
-
-same-length-2 : tie.Need-same-length-2
-same-length-2 c = search needs
 
 returns : tie.Need-returns
 returns c =
@@ -59,13 +35,13 @@ climb-spec =
     tie.close
     (tie.spec
     fill-numbers-requires
-    fill-requires
-    mul-at
-    add-end
-    sub-greatest
-    part-greatest-start
-    part-greatest-end
+    (λ c κs. search needs)
+    (λ c. search needs)
+    (λ c. search needs)
+    (λ c. search needs)
+    (λ c. search needs)
+    (λ c. search needs)
     greatest-requires
-    same-length
-    same-length-2
+    (λ c. search needs)
+    (λ c. search needs)
     returns)

@@ -7,33 +7,6 @@ use Rattle.nodes.proofs.Lent.{joins}
 use Rattle.nodes.proofs.descend.Statement.{statement}
 use Rattle.nodes.proofs.descend.Tie as tie
 
-fill-requires : tie.Need-fill-requires
-fill-requires c κs = search needs
-
-mul-at : tie.Need-mul-at
-mul-at c = search needs
-
-add-end : tie.Need-add-end
-add-end c = search needs
-
-sub-least : tie.Need-sub-least
-sub-least c = search needs
-
-part-least-start : tie.Need-part-least-start
-part-least-start c = search needs
-
-part-least-end : tie.Need-part-least-end
-part-least-end c = search needs
-
-least-requires : tie.Need-least-requires
-least-requires c κs = search needs
-
-same-length : tie.Need-same-length
-same-length c = search needs
-
-same-length-2 : tie.Need-same-length-2
-same-length-2 c = search needs
-
 returns : tie.Need-returns
 returns c =
     let run = c .before .before in
@@ -48,13 +21,13 @@ pub descend-spec : {M : Type 1} → statement M
 descend-spec =
     tie.close
     (tie.spec
-    fill-requires
-    mul-at
-    add-end
-    sub-least
-    part-least-start
-    part-least-end
-    least-requires
-    same-length
-    same-length-2
+    (λ c κs. search needs)
+    (λ c. search needs)
+    (λ c. search needs)
+    (λ c. search needs)
+    (λ c. search needs)
+    (λ c. search needs)
+    (λ c κs. search needs)
+    (λ c. search needs)
+    (λ c. search needs)
     returns)

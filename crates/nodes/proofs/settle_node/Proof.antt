@@ -70,12 +70,6 @@ node-at-requires c κs =
     let w = c .before .before .before .before .pre .0 .1 in
     omega (arith, accepted _ (w .unrefused) .shape .whole, w .inside)
 
-fill-requires : tie.Need-fill-requires
-fill-requires c κs = search needs
-
-same-length : tie.Need-same-length
-same-length c = search needs
-
 returns : tie.Need-returns
 returns c =
     let ran = c .before .before in
@@ -90,9 +84,6 @@ fill-label-requires c κs =
     let read = read2 (test .before) in
     let l = start read .pre .0 .0 in
     (labels-inside (l .passed), label-low (node read) (test .if2 .taken), l .table)
-
-same-length-2 : tie.Need-same-length-2
-same-length-2 c = search needs
 
 returns-2 : tie.Need-returns-2
 returns-2 c =
@@ -109,9 +100,6 @@ fill-requires-2 c κs =
     let low = a-lower (node read) (omega (arith, test .if3 .taken)) in
     (start read .pre .0 .0 .table, omega (arith, low), omega (arith, low))
 
-same-length-3 : tie.Need-same-length-3
-same-length-3 c = search needs
-
 returns-3 : tie.Need-returns-3
 returns-3 c =
     let ran = c .before .before in
@@ -123,9 +111,6 @@ returns-3 c =
 fill-requires-3 : tie.Need-fill-requires-3
 fill-requires-3 c κs = let test = c .before in lower (read4 (test .before)) (omega (arith, test .if4 .taken))
 
-same-length-4 : tie.Need-same-length-4
-same-length-4 c = search needs
-
 returns-4 : tie.Need-returns-4
 returns-4 c =
     let ran = c .before .before in
@@ -136,9 +121,6 @@ returns-4 c =
 
 fill-requires-4 : tie.Need-fill-requires-4
 fill-requires-4 c κs = let test = c .before in lower (read5 (test .before)) (omega (arith, test .if5 .taken))
-
-same-length-5 : tie.Need-same-length-5
-same-length-5 c = search needs
 
 returns-5 : tie.Need-returns-5
 returns-5 c =
@@ -154,12 +136,6 @@ until-requires c κs =
     let read = read5 (none .before) in
     (start read .pre .0 .0, low read (omega (arith, above none)), read .node-at .ensures .1 .c)
 
-same-length-6 : tie.Need-same-length-6
-same-length-6 c = search needs
-
-same-length-7 : tie.Need-same-length-7
-same-length-7 c = search needs
-
 returns-6 : tie.Need-returns-6
 returns-6 c =
     let ran = c .before .before .before .before in
@@ -173,22 +149,22 @@ settle-node-spec =
     tie.close
     (tie.spec
     node-at-requires
-    fill-requires
-    same-length
+    (λ c κs. search needs)
+    (λ c. search needs)
     returns
     fill-label-requires
-    same-length-2
+    (λ c. search needs)
     returns-2
     fill-requires-2
-    same-length-3
+    (λ c. search needs)
     returns-3
     fill-requires-3
-    same-length-4
+    (λ c. search needs)
     returns-4
     fill-requires-4
-    same-length-5
+    (λ c. search needs)
     returns-5
     until-requires
-    same-length-6
-    same-length-7
+    (λ c. search needs)
+    (λ c. search needs)
     returns-6)

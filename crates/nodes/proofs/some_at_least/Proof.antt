@@ -7,22 +7,10 @@ use Rattle.nodes.proofs.Untils.{some-at-least}
 use Rattle.nodes.proofs.some_at_least.Statement.{statement}
 use Rattle.nodes.proofs.some_at_least.Tie as tie
 
-add-cap : tie.Need-add-cap
-add-cap c = search needs
-
 climb-requires : tie.Need-climb-requires
 climb-requires c κs =
     let p = c .before .before .before .before .before .before .pre in
     ((p .0, p .1), (omega (arith, p .2), λ x y. cond-le y (omega arith) (omega arith)))
-
-judge-requires : tie.Need-judge-requires
-judge-requires c κs = search needs
-
-same-length : tie.Need-same-length
-same-length c = search needs
-
-same-length-2 : tie.Need-same-length-2
-same-length-2 c = search needs
 
 returns : tie.Need-returns
 returns c =
@@ -33,4 +21,4 @@ returns c =
 
 pub some-at-least-spec : {M : Type 1} → statement M
 some-at-least-spec =
-    tie.close (tie.spec add-cap climb-requires judge-requires same-length same-length-2 returns)
+    tie.close (tie.spec (λ c. search needs) climb-requires (λ c κs. search needs) (λ c. search needs) (λ c. search needs) returns)

@@ -10,9 +10,6 @@ use Rattle.nodes.proofs.Untils.{some-at-most}
 use Rattle.nodes.proofs.some_at_most.Statement.{statement}
 use Rattle.nodes.proofs.some_at_most.Tie as tie
 
-add-far : tie.Need-add-far
-add-far c = search needs
-
 fill-numbers-requires : tie.Need-fill-numbers-requires
 fill-numbers-requires c κs =
     let p = c .before .before .before .before .before .before .pre in
@@ -27,15 +24,6 @@ descend-requires c κs =
     let vs = ends-numbered (start .args .node .c + 1) end (based .fill-numbers .ensures) (omega (arith, p .2)) in
     ((p .0 .passed, p .0 .table), (p .1, vs))
 
-judge-requires : tie.Need-judge-requires
-judge-requires c κs = search needs
-
-same-length : tie.Need-same-length
-same-length c = search needs
-
-same-length-2 : tie.Need-same-length-2
-same-length-2 c = search needs
-
 returns : tie.Need-returns
 returns c =
     let judged = c .before .before in
@@ -49,10 +37,10 @@ pub some-at-most-spec : {M : Type 1} → statement M
 some-at-most-spec =
     tie.close
     (tie.spec
-    add-far
+    (λ c. search needs)
     fill-numbers-requires
     descend-requires
-    judge-requires
-    same-length
-    same-length-2
+    (λ c κs. search needs)
+    (λ c. search needs)
+    (λ c. search needs)
     returns)

@@ -32,30 +32,6 @@ fill-numbers-requires c κs =
       omega (arith, size, old .1, old .2),
     )
 
-mul-at : tie.Need-mul-at
-mul-at c = search needs
-
-add-end : tie.Need-add-end
-add-end c = search needs
-
-sub-clear-unsure : tie.Need-sub-clear-unsure
-sub-clear-unsure c = search needs
-
-part-clear-unsure-start : tie.Need-part-clear-unsure-start
-part-clear-unsure-start c = search needs
-
-part-clear-unsure-end : tie.Need-part-clear-unsure-end
-part-clear-unsure-end c = search needs
-
-clear-unsure-requires : tie.Need-clear-unsure-requires
-clear-unsure-requires c κs = search needs
-
-same-length : tie.Need-same-length
-same-length c = search needs
-
-same-length-2 : tie.Need-same-length-2
-same-length-2 c = search needs
-
 returns : tie.Need-returns
 returns c =
     let cleared = c .before .before in
@@ -78,12 +54,12 @@ sure-start-spec =
     cast-unhindered
     unhindered-requires
     fill-numbers-requires
-    mul-at
-    add-end
-    sub-clear-unsure
-    part-clear-unsure-start
-    part-clear-unsure-end
-    clear-unsure-requires
-    same-length
-    same-length-2
+    (λ c. search needs)
+    (λ c. search needs)
+    (λ c. search needs)
+    (λ c. search needs)
+    (λ c. search needs)
+    (λ c κs. search needs)
+    (λ c. search needs)
+    (λ c. search needs)
     returns)

@@ -8,22 +8,10 @@ use Rattle.nodes.proofs.Untils.{unhindered-by}
 use Rattle.nodes.proofs.unhindered.Statement.{statement}
 use Rattle.nodes.proofs.unhindered.Tie as tie
 
-add-cap : tie.Need-add-cap
-add-cap c = search needs
-
 climb-requires : tie.Need-climb-requires
 climb-requires c κs =
     let p = c .before .before .before .before .before .pre in
     ((p .0, p .1), (omega (arith, p .2), λ x y. cond-le (x || y) (omega arith) (omega (arith, p .2))))
-
-judge-requires : tie.Need-judge-requires
-judge-requires c κs = search needs
-
-same-length : tie.Need-same-length
-same-length c = search needs
-
-same-length-2 : tie.Need-same-length-2
-same-length-2 c = search needs
 
 returns : tie.Need-returns
 returns c =
@@ -35,4 +23,4 @@ returns c =
 pub unhindered-spec : {M : Type 1} → statement M
 unhindered-spec =
     tie.close
-    (tie.spec add-cap climb-requires judge-requires same-length same-length-2 returns)
+    (tie.spec (λ c. search needs) climb-requires (λ c κs. search needs) (λ c. search needs) (λ c. search needs) returns)

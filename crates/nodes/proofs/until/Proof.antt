@@ -9,47 +9,17 @@ use Rattle.nodes.proofs.Bounds.{is-at-most, is-at-least}
 use Rattle.nodes.proofs.until.Statement.{statement}
 use Rattle.nodes.proofs.until.Tie as tie
 
-some-at-most-requires : tie.Need-some-at-most-requires
-some-at-most-requires c κs = search needs
-
-same-length : tie.Need-same-length
-same-length c = search needs
-
-same-length-2 : tie.Need-same-length-2
-same-length-2 c = search needs
-
 returns : tie.Need-returns
 returns c =
     let ran = c .before .before .before .before in
     let kind = ran .before .before .before in
     rw (eq-eqb _ _ (kind .before .before .if1 .taken), is-at-most _ (kind .if2 .taken)) (ran .some-at-most .ensures)
 
-some-at-least-requires : tie.Need-some-at-least-requires
-some-at-least-requires c κs = search needs
-
-same-length-3 : tie.Need-same-length-3
-same-length-3 c = search needs
-
-same-length-4 : tie.Need-same-length-4
-same-length-4 c = search needs
-
 returns-2 : tie.Need-returns-2
 returns-2 c =
     let ran = c .before .before .before .before in
     let kind = ran .before .before .before in
     rw (eq-eqb _ _ (kind .before .before .if1 .taken), is-at-least _ (kind .if2 .left)) (ran .some-at-least .ensures)
-
-add-unhindered : tie.Need-add-unhindered
-add-unhindered c = search needs
-
-unhindered-requires : tie.Need-unhindered-requires
-unhindered-requires c κs = search needs
-
-same-length-5 : tie.Need-same-length-5
-same-length-5 c = search needs
-
-same-length-6 : tie.Need-same-length-6
-same-length-6 c = search needs
 
 returns-3 : tie.Need-returns-3
 returns-3 c =
@@ -68,12 +38,6 @@ unhindered-requires-2 c κs =
     let p = c .before .before .before .before .before .before .before .before .before .before .before .pre in
     (p .0, p .1, omega (arith, shaped (p .0 .passed) .few-states))
 
-same-length-7 : tie.Need-same-length-7
-same-length-7 c = search needs
-
-same-length-8 : tie.Need-same-length-8
-same-length-8 c = search needs
-
 returns-4 : tie.Need-returns-4
 returns-4 c =
     let ran = c .before .before .before .before in
@@ -81,15 +45,6 @@ returns-4 c =
     let kind = zero .before .before in
     rw (ne-eqb _ _ (kind .before .before .if1 .left), is-at-least _ (kind .if3 .left))
     (written-as (ran .unhindered2 .ensures) (all-plain _ _ _ _ (zero .if4 .taken)))
-
-all-at-least-requires : tie.Need-all-at-least-requires
-all-at-least-requires c κs = search needs
-
-same-length-9 : tie.Need-same-length-9
-same-length-9 c = search needs
-
-same-length-10 : tie.Need-same-length-10
-same-length-10 c = search needs
 
 returns-5 : tie.Need-returns-5
 returns-5 c =
@@ -101,25 +56,25 @@ pub until-spec : {M : Type 1} → statement M
 until-spec =
     tie.close
     (tie.spec
-    some-at-most-requires
-    same-length
-    same-length-2
+    (λ c κs. search needs)
+    (λ c. search needs)
+    (λ c. search needs)
     returns
-    some-at-least-requires
-    same-length-3
-    same-length-4
+    (λ c κs. search needs)
+    (λ c. search needs)
+    (λ c. search needs)
     returns-2
-    add-unhindered
-    unhindered-requires
-    same-length-5
-    same-length-6
+    (λ c. search needs)
+    (λ c κs. search needs)
+    (λ c. search needs)
+    (λ c. search needs)
     returns-3
     cast-unhindered
     unhindered-requires-2
-    same-length-7
-    same-length-8
+    (λ c. search needs)
+    (λ c. search needs)
     returns-4
-    all-at-least-requires
-    same-length-9
-    same-length-10
+    (λ c κs. search needs)
+    (λ c. search needs)
+    (λ c. search needs)
     returns-5)

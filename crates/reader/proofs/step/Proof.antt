@@ -38,9 +38,6 @@ module _ (c : tie.Then1) where
   long : 9 ≤ length bytes
   long = well-formed bytes passed .head .enough
 
-chart-refusal-requires : tie.Need-chart-refusal-requires
-chart-refusal-requires c κs = search needs
-
 arrow-count-requires : tie.Need-arrow-count-requires
 arrow-count-requires c κs = long c
 
@@ -57,9 +54,6 @@ arrow-at-requires c κs =
       unrefused = passed (d .before);
     } in
     arrow-inside (shaped p) (c .before .if2 .taken)
-
-add-t8 : tie.Need-add-t8
-add-t8 c = search needs
 
 returns : tie.Need-returns
 returns c =
@@ -84,11 +78,11 @@ pub step-spec : {M : Type 1} → statement M
 step-spec =
     tie.close
     (tie.spec
-    chart-refusal-requires
+    (λ c κs. search needs)
     arrow-count-requires
     state-count-requires
     arrow-at-requires
-    add-t8
+    (λ c. search needs)
     returns
     returns-2
     returns-3)

@@ -11,9 +11,6 @@ use Rattle.rows.proofs.Within.{within}
 use Rattle.rows.proofs.part.Statement.{statement}
 use Rattle.rows.proofs.part.Tie as tie
 
-row-place-requires : tie.Need-row-place-requires
-row-place-requires c κs = search needs
-
 -- the place that was answered lies in the table
 lies :
     (c : tie.After-row-place) →
@@ -25,12 +22,6 @@ lies c =
 
 add-end : tie.Need-add-end
 add-end c = omega (arith, lies (c .before))
-
-sub-result : tie.Need-sub-result
-sub-result c = search needs
-
-part-result-start : tie.Need-part-result-start
-part-result-start c = search needs
 
 part-result-end : tie.Need-part-result-end
 part-result-end c = lies (c .before)
@@ -49,4 +40,4 @@ returns c =
 pub part-spec : {M : Type 1} → statement M
 part-spec =
     tie.close
-    (tie.spec row-place-requires add-end sub-result part-result-start part-result-end returns)
+    (tie.spec (λ c κs. search needs) add-end (λ c. search needs) (λ c. search needs) part-result-end returns)

@@ -17,9 +17,6 @@ lies c = inside _ _ _ (c .before .if1 .left) (c .if2 .left)
 returns : tie.Need-returns
 returns c = simp (le-ltb 0 (c .before .args .n) (omega arith)) refl
 
-div-if2 : tie.Need-div-if2
-div-if2 c = search needs
-
 returns-2 : tie.Need-returns-2
 returns-2 c =
     let a = c .before .before .args in
@@ -35,4 +32,4 @@ returns-3 c =
     simp (lt-ltb 0 (a .n) (omega arith), le-leb _ _ (lies c)) refl
 
 pub row-place-spec : {M : Type 1} → statement M
-row-place-spec = tie.close (tie.spec returns div-if2 returns-2 mul-t5 returns-3)
+row-place-spec = tie.close (tie.spec returns (λ c. search needs) returns-2 mul-t5 returns-3)

@@ -30,33 +30,21 @@ loop-holds c = (omega arith, below-none _)
 arrow-at-requires : tie.Need-arrow-at-requires Inv-loop μ-loop
 arrow-at-requires c κs = arrow-inside (c .before .before .before .pre) (c .loop-test .taken)
 
-offending-requires : tie.Need-offending-requires Inv-loop μ-loop
-offending-requires c κs = search needs
-
 cast-refused : tie.Need-cast-refused Inv-loop μ-loop
 cast-refused c = omega (arith, c .before .before .before .before .before .before .pre .few-arrows)
-
-refused-requires : tie.Need-refused-requires Inv-loop μ-loop
-refused-requires c κs = search needs
 
 returns : tie.Need-returns Inv-loop μ-loop
 returns c =
     let a = c .before .before .before .before .before .before .before .args in
-    let i = c .before .before .before .before .before .loop .i in
+    let read = c .before .before .before .arrow-at .ensures .0 in
     c .refused .ensures ∙
     search-found (a .row) (
     record {
       inside = c .before .before .before .before .loop-test .taken;
-      offends = told (a .row) (a .n) (c .before .before .before .arrow-at .ensures .0) (c .before .before .offending .ensures) (c .before .if1 .taken);
+      offends = told (a .row) (a .n) read (c .before .before .offending .ensures) (c .before .if1 .taken);
       under = c .before .before .before .before .before .loop .inv .1;
     }
     )
-
-add-i : tie.Need-add-i Inv-loop μ-loop
-add-i c = omega arith
-
-loop-less : tie.Need-loop-less Inv-loop μ-loop
-loop-less c = omega arith
 
 loop-again : tie.Need-loop-again Inv-loop μ-loop
 loop-again c =
@@ -66,9 +54,6 @@ loop-again c =
           told (a .row) (a .n) (c .before .before .arrow-at .ensures .0) (c .before .offending .ensures) (c .if1 .left)
           ),
     )
-
-accepted-requires : tie.Need-accepted-requires Inv-loop μ-loop
-accepted-requires c κs = search needs
 
 returns-2 : tie.Need-returns-2 Inv-loop μ-loop
 returns-2 c =
@@ -83,12 +68,12 @@ arrow-refusal-spec =
     μ-loop
     loop-holds
     arrow-at-requires
-    offending-requires
+    (λ c κs. search needs)
     cast-refused
-    refused-requires
+    (λ c κs. search needs)
     returns
-    add-i
-    loop-less
+    (λ c. omega arith)
+    (λ c. omega arith)
     loop-again
-    accepted-requires
+    (λ c κs. search needs)
     returns-2)

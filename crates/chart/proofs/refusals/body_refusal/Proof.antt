@@ -7,14 +7,8 @@ use Rattle.chart.proofs.Passed.{ends-passed}
 use Rattle.chart.proofs.refusals.body_refusal.Statement.{statement}
 use Rattle.chart.proofs.refusals.body_refusal.Tie as tie
 
-arrow-refusal-requires : tie.Need-arrow-refusal-requires
-arrow-refusal-requires c κs = search needs
-
 returns : tie.Need-returns
 returns c = part-refuses _ _ (c .before .before .arrow-refusal .ensures) (c .if1 .taken)
-
-arrow-refusal-requires-2 : tie.Need-arrow-refusal-requires-2
-arrow-refusal-requires-2 c κs = search needs
 
 returns-2 : tie.Need-returns-2
 returns-2 c =
@@ -25,7 +19,8 @@ returns-2 c =
 state-refusal-requires : tie.Need-state-refusal-requires
 state-refusal-requires c κs =
     let w = c .before .before .before .before .before .before .before in
-    let z = part-zero _ (c .before .before .before .before .before .arrow-refusal .ensures) (c .before .before .before .if1 .left) in (
+    let tested = c .before .before .before .before .before in
+    let z = part-zero _ (tested .arrow-refusal .ensures) (c .before .before .before .if1 .left) in (
       w .pre,
       λ i l. omega (arith, ends-passed (now (w .args .chart)) (w .args .n) (w .args .m) z i l .0, w .pre .few-states),
     )
@@ -34,15 +29,16 @@ returns-3 : tie.Need-returns-3
 returns-3 c =
     part-passes _ _ tt (c .before .before .before .before .before .before .arrow-refusal .ensures)
     (c .before .before .before .before .if1 .left)
-    (part-passes _ _ tt (c .before .before .before .arrow-refusal2 .ensures) (c .before .if2 .left) (c .state-refusal .ensures))
+    (part-passes _ _ tt (c .before .before .before .arrow-refusal2 .ensures) (c .before .if2 .left)
+    (c .state-refusal .ensures))
 
 pub body-refusal-spec : {M : Type 1} → statement M
 body-refusal-spec =
     tie.close
     (tie.spec
-    arrow-refusal-requires
+    (λ c κs. search needs)
     returns
-    arrow-refusal-requires-2
+    (λ c κs. search needs)
     returns-2
     state-refusal-requires
     returns-3)

@@ -16,9 +16,6 @@ long c =
     head-passed 1 9 (now (c .before .before .before .before .args .chart)) tt (c .before .before .head-refusal .ensures)
     (c .if1 .left)
 
-head-refusal-requires : tie.Need-head-refusal-requires
-head-refusal-requires c κs = search needs
-
 returns : tie.Need-returns
 unfolding chartTable
 returns c = part-refuses _ _ (c .before .before .head-refusal .ensures) (c .if1 .taken)
@@ -51,13 +48,14 @@ returns-3 c =
     (c .before .before .before .before .before .before .if1 .left)
     (part-passes _ _ tt (c .before .before .before .before .before .size-refusal .ensures)
     (c .before .before .before .if2 .left)
-    (body-last _ (c .before .before .state-count .ensures .0) (c .before .arrow-count .ensures .0) (c .body-refusal .ensures)))
+    (body-last _ (c .before .before .state-count .ensures .0) (c .before .arrow-count .ensures .0)
+    (c .body-refusal .ensures)))
 
 pub chart-refusal-spec : {M : Type 1} → statement M
 chart-refusal-spec =
     tie.close
     (tie.spec
-    head-refusal-requires
+    (λ c κs. search needs)
     returns
     size-refusal-requires
     returns-2

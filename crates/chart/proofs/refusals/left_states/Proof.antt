@@ -36,23 +36,19 @@ array-write-left c =
     ap (λ (w : ArrowWords). w .start) (c .arrow-at .ensures .0) in
     omega (arith, c .before .before .before .before .pre .1 i (c .before .loop-test .taken))
 
-add-i : tie.Need-add-i Inv-loop μ-loop
-add-i c = omega arith
-
-loop-less : tie.Need-loop-less Inv-loop μ-loop
-loop-less c = omega arith
-
 loop-again : tie.Need-loop-again Inv-loop μ-loop
 loop-again c =
     let s = now (c .before .before .before .before .args .chart) in
     let i = c .before .before .loop .i in
     let inv = c .before .before .loop .inv in
-    let e : arrowWords s i .start ≡ c .arrow-at .result .start = ap (λ (w : ArrowWords). w .start) (sym (c .arrow-at .ensures .0)) in
+    let e : arrowWords s i .start ≡ c .arrow-at .result .start =
+    ap (λ (w : ArrowWords). w .start) (sym (c .arrow-at .ensures .0)) in
     let l = c .before .before .before .before .pre .1 i (c .before .loop-test .taken) in (
       omega arith,
       simp length-set (inv .1),
       rw (add-one i)
-          (left-set s i (c .arrow-at .result .start) (c .before .before .loop .left) e (omega (arith, inv .1)) (inv .2)),
+          (left-set s i (c .arrow-at .result .start) (c .before .before .loop .left) e (omega (arith, inv .1))
+          (inv .2)),
     )
 
 returns : tie.Need-returns Inv-loop μ-loop
@@ -70,7 +66,7 @@ left-states-spec =
     loop-holds
     arrow-at-requires
     array-write-left
-    add-i
-    loop-less
+    (λ c. omega arith)
+    (λ c. omega arith)
     loop-again
     returns)

@@ -29,9 +29,6 @@ array-read-if1 c = omega (arith, c .before .before .before .before .pre .0 .few-
 cast-refused : tie.Need-cast-refused Inv-loop μ-loop
 cast-refused c = omega (arith, c .before .before .before .before .before .pre .0 .few-states)
 
-refused-requires : tie.Need-refused-requires Inv-loop μ-loop
-refused-requires c κs = search needs
-
 returns : tie.Need-returns Inv-loop μ-loop
 returns c =
     let w = c .before .before .before .before .before .before in
@@ -39,13 +36,13 @@ returns c =
     let l = c .before .before .loop-test .taken in
     let e = c .before .before .before .before .left-states .ensures v (omega (arith, w .pre .0 .few-states)) in
     c .refused .ensures ∙
-    search-found 9 (record { inside = l; offends = ap not (sym e) ∙ c .before .if1 .taken; under = c .before .before .before .loop .inv .1 })
-
-add-v : tie.Need-add-v Inv-loop μ-loop
-add-v c = omega arith
-
-loop-less : tie.Need-loop-less Inv-loop μ-loop
-loop-less c = omega arith
+    search-found 9 (
+    record {
+      inside = l;
+      offends = ap not (sym e) ∙ c .before .if1 .taken;
+      under = c .before .before .before .loop .inv .1;
+    }
+    )
 
 loop-again : tie.Need-loop-again Inv-loop μ-loop
 loop-again c =
@@ -53,9 +50,6 @@ loop-again c =
     let v = c .before .before .loop .v in
     let e = c .before .before .before .left-states .ensures v (omega (arith, w .pre .0 .few-states)) in
     (omega arith, below-more _ _ (c .before .before .loop .inv .1) (ap not (sym e) ∙ c .if1 .left))
-
-accepted-requires : tie.Need-accepted-requires Inv-loop μ-loop
-accepted-requires c κs = search needs
 
 returns-2 : tie.Need-returns-2 Inv-loop μ-loop
 returns-2 c = c .accepted .ensures ∙ search-ended 9 (λ u l. c .before .before .loop .inv .1 u (omega arith))
@@ -70,10 +64,10 @@ state-refusal-spec =
     loop-holds
     array-read-if1
     cast-refused
-    refused-requires
+    (λ c κs. search needs)
     returns
-    add-v
-    loop-less
+    (λ c. omega arith)
+    (λ c. omega arith)
     loop-again
-    accepted-requires
+    (λ c κs. search needs)
     returns-2)

@@ -6,12 +6,9 @@ use Rattle.rule.specs.Form.{formOf}
 use Rattle.rule.proofs.form.form.Statement.{statement}
 use Rattle.rule.proofs.form.form.Tie as tie
 
-array-read-result : tie.Need-array-read-result
-array-read-result c = search needs
-
 returns : tie.Need-returns
 unfolding tabulate formOf
 returns c = getD-tabulate 256 formOf 0 (c .args .operation) (c .fits .operation .fits)
 
 pub form-spec : {M : Type 1} → statement M
-form-spec = tie.close (tie.spec array-read-result returns)
+form-spec = tie.close (tie.spec (λ c. search needs) returns)

@@ -4,14 +4,8 @@ use Rattle.outcome.proofs.First.{part-refuses, part-passes}
 use Rattle.rule.proofs.refusals.body_refusal.Statement.{statement}
 use Rattle.rule.proofs.refusals.body_refusal.Tie as tie
 
-node-refusal-requires : tie.Need-node-refusal-requires
-node-refusal-requires c κs = search needs
-
 returns : tie.Need-returns
 returns c = part-refuses _ _ (c .before .before .node-refusal .ensures) (c .if1 .taken)
-
-node-refusal-requires-2 : tie.Need-node-refusal-requires-2
-node-refusal-requires-2 c κs = search needs
 
 returns-2 : tie.Need-returns-2
 returns-2 c =
@@ -19,26 +13,21 @@ returns-2 c =
     (c .before .before .before .if1 .left)
     (part-refuses _ _ (c .before .before .node-refusal2 .ensures) (c .if2 .taken))
 
-sub-node-refusal : tie.Need-sub-node-refusal
-sub-node-refusal c = search needs
-
-node-refusal-requires-3 : tie.Need-node-refusal-requires-3
-node-refusal-requires-3 c κs = search needs
-
 returns-3 : tie.Need-returns-3
 returns-3 c =
     part-passes _ _ tt (c .before .before .before .before .before .before .node-refusal .ensures)
     (c .before .before .before .before .if1 .left)
-    (part-passes _ _ tt (c .before .before .before .node-refusal2 .ensures) (c .before .if2 .left) (c .node-refusal3 .ensures))
+    (part-passes _ _ tt (c .before .before .before .node-refusal2 .ensures) (c .before .if2 .left)
+    (c .node-refusal3 .ensures))
 
 pub body-refusal-spec : {M : Type 1} → statement M
 body-refusal-spec =
     tie.close
     (tie.spec
-    node-refusal-requires
+    (λ c κs. search needs)
     returns
-    node-refusal-requires-2
+    (λ c κs. search needs)
     returns-2
-    sub-node-refusal
-    node-refusal-requires-3
+    (λ c. search needs)
+    (λ c κs. search needs)
     returns-3)

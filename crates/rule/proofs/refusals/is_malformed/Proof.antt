@@ -1,7 +1,8 @@
 -- Each return is the condition by its five parts, of which the tests that led there tell.
 use mathlib.Core.Path.{_≡_, refl, sym, ap, _∙_}
-use mathlib.Core.Bool.{Bool, not}
+use mathlib.Core.Bool.{Bool, false, not}
 use native.Mathlib.Omega.{arith}
+use lib.Dec.{ltb}
 use borrow.Author.Tests.{lt-ltb, le-ltb, eq-eqb, ne-eqb}
 use borrow.Author.Needs.{needs}
 use Rattle.rule.specs.Form.{formOf}
@@ -27,18 +28,12 @@ a-is c g =
     let w = c .before .before .before .before .before .args .w in
     ap (λ f. wrongA f (w .a)) (sym (c .before .before .before .before .form .ensures)) ∙ sym (c .wrong-a .ensures) ∙ g
 
-form-requires : tie.Need-form-requires
-form-requires c κs = search needs
-
 returns : tie.Need-returns
 returns c =
     let w = c .before .before .args .w in
     let e = c .before .form .ensures in
     malformed-by w
     (lt-ltb 4 (formOf (w .operation)) (omega arith)) refl refl refl refl
-
-wrong-kind-requires : tie.Need-wrong-kind-requires
-wrong-kind-requires c κs = search needs
 
 returns-2 : tie.Need-returns-2
 returns-2 c =
@@ -47,9 +42,6 @@ returns-2 c =
     malformed-by w
     (le-ltb 4 (formOf (w .operation)) (omega arith))
     (kind-is (c .before) (c .if2 .taken)) refl refl refl
-
-wrong-a-requires : tie.Need-wrong-a-requires
-wrong-a-requires c κs = search needs
 
 returns-3 : tie.Need-returns-3
 returns-3 c =
@@ -60,14 +52,26 @@ returns-3 c =
     (kind-is (c .before .before .before) (c .before .before .if2 .left))
     (a-is (c .before) (c .if3 .taken)) refl refl
 
+-- past the first three tests the operation is known, and the kind and a are right
+passed :
+    (c : tie.Else3) →
+    let w = c .before .before .before .before .before .before .args .w in
+    let form = formOf (w .operation) in
+    (ltb 4 form ≡ false) × (wrongKind form w ≡ false) × (wrongA form (w .a) ≡ false)
+passed c =
+    let w = c .before .before .before .before .before .before .args .w in
+    let e = c .before .before .before .before .before .form .ensures in (
+      le-ltb 4 (formOf (w .operation)) (omega arith),
+      kind-is (c .before .before .before) (c .before .before .if2 .left),
+      a-is (c .before) (c .if3 .left),
+    )
+
 returns-4 : tie.Need-returns-4
 returns-4 c =
     let w = c .before .before .before .before .before .before .before .args .w in
     let e = c .before .before .before .before .before .before .form .ensures in
-    malformed-by w
-    (le-ltb 4 (formOf (w .operation)) (omega arith))
-    (kind-is (c .before .before .before .before) (c .before .before .before .if2 .left))
-    (a-is (c .before .before) (c .before .if3 .left))
+    let p = passed (c .before) in
+    malformed-by w (p .0) (p .1) (p .2)
     (used 4 (w .c) (formOf (w .operation)) (omega arith))
     (used 3 (w .b) (formOf (w .operation)) (omega arith))
 
@@ -75,10 +79,8 @@ returns-5 : tie.Need-returns-5
 returns-5 c =
     let w = c .before .before .before .before .before .before .before .before .before .args .w in
     let e = c .before .before .before .before .before .before .before .before .form .ensures in
-    malformed-by w
-    (le-ltb 4 (formOf (w .operation)) (omega arith))
-    (kind-is (c .before .before .before .before .before .before) (c .before .before .before .before .before .if2 .left))
-    (a-is (c .before .before .before .before) (c .before .before .before .if3 .left))
+    let p = passed (c .before .before .before) in
+    malformed-by w (p .0) (p .1) (p .2)
     (unused 4 (w .c) (formOf (w .operation)) (omega arith) ∙ ap not (ne-eqb _ _ (c .if5 .taken)))
     refl
 
@@ -86,10 +88,8 @@ returns-6 : tie.Need-returns-6
 returns-6 c =
     let w = c .before .before .before .before .before .before .before .before .before .before .args .w in
     let e = c .before .before .before .before .before .before .before .before .before .form .ensures in
-    malformed-by w
-    (le-ltb 4 (formOf (w .operation)) (omega arith))
-    (kind-is (c .before .before .before .before .before .before .before) (c .before .before .before .before .before .before .if2 .left))
-    (a-is (c .before .before .before .before .before) (c .before .before .before .before .if3 .left))
+    let p = passed (c .before .before .before .before) in
+    malformed-by w (p .0) (p .1) (p .2)
     (unused 4 (w .c) (formOf (w .operation)) (omega arith) ∙ ap not (eq-eqb _ _ (c .before .if5 .left)))
     (used 3 (w .b) (formOf (w .operation)) (omega arith))
 
@@ -97,10 +97,8 @@ returns-7 : tie.Need-returns-7
 returns-7 c =
     let w = c .before .before .before .before .before .before .before .before .before .before .before .args .w in
     let e = c .before .before .before .before .before .before .before .before .before .before .form .ensures in
-    malformed-by w
-    (le-ltb 4 (formOf (w .operation)) (omega arith))
-    (kind-is (c .before .before .before .before .before .before .before .before) (c .before .before .before .before .before .before .before .if2 .left))
-    (a-is (c .before .before .before .before .before .before) (c .before .before .before .before .before .if3 .left))
+    let p = passed (c .before .before .before .before .before) in
+    malformed-by w (p .0) (p .1) (p .2)
     (unused 4 (w .c) (formOf (w .operation)) (omega arith) ∙ ap not (eq-eqb _ _ (c .before .before .if5 .left)))
     (unused 3 (w .b) (formOf (w .operation)) (omega arith))
 
@@ -108,11 +106,11 @@ pub is-malformed-spec : {M : Type 1} → statement M
 is-malformed-spec =
     tie.close
     (tie.spec
-    form-requires
+    (λ c κs. search needs)
     returns
-    wrong-kind-requires
+    (λ c κs. search needs)
     returns-2
-    wrong-a-requires
+    (λ c κs. search needs)
     returns-3
     returns-4
     returns-5

@@ -24,11 +24,8 @@ offending-requires c κs = (c .before .before .before .pre .0, omega (arith, c .
 
 cast-refused : tie.Need-cast-refused Inv-loop μ-loop
 cast-refused c =
-    omega
-    (arith, c .before .before .before .before .before .pre .0 .few-nodes, c .before .before .before .before .before .pre .1)
-
-refused-requires : tie.Need-refused-requires Inv-loop μ-loop
-refused-requires c κs = search needs
+    let p = c .before .before .before .before .before .pre in
+    omega (arith, p .0 .few-nodes, p .1)
 
 returns : tie.Need-returns Inv-loop μ-loop
 returns c =
@@ -41,20 +38,11 @@ returns c =
     }
     )
 
-add-t : tie.Need-add-t Inv-loop μ-loop
-add-t c = omega arith
-
-loop-less : tie.Need-loop-less Inv-loop μ-loop
-loop-less c = omega arith
-
 loop-again : tie.Need-loop-again Inv-loop μ-loop
 loop-again c = (
   omega arith,
   below-more _ _ (c .before .before .before .loop .inv .1) (sym (c .before .offending .ensures) ∙ c .if1 .left),
 )
-
-accepted-requires : tie.Need-accepted-requires Inv-loop μ-loop
-accepted-requires c κs = search needs
 
 returns-2 : tie.Need-returns-2 Inv-loop μ-loop
 returns-2 c =
@@ -70,10 +58,10 @@ node-refusal-spec =
     loop-holds
     offending-requires
     cast-refused
-    refused-requires
+    (λ c κs. search needs)
     returns
-    add-t
-    loop-less
+    (λ c. omega arith)
+    (λ c. omega arith)
     loop-again
-    accepted-requires
+    (λ c κs. search needs)
     returns-2)

@@ -12,9 +12,6 @@ use Rattle.rule.proofs.refusals.offending.Tie as tie
 node-at-requires : tie.Need-node-at-requires
 node-at-requires c κs = omega (arith, c .before .before .pre .0 .whole)
 
-is-malformed-requires : tie.Need-is-malformed-requires
-is-malformed-requires c κs = search needs
-
 returns : tie.Need-returns
 returns c =
     simp (eq-eqb _ _ (c .before .before .if1 .taken))
@@ -23,9 +20,6 @@ returns c =
 node-at-requires-2 : tie.Need-node-at-requires-2
 node-at-requires-2 c κs = omega (arith, c .before .before .before .pre .0 .whole)
 
-is-not-lower-requires : tie.Need-is-not-lower-requires
-is-not-lower-requires c κs = search needs
-
 returns-2 : tie.Need-returns-2
 returns-2 c =
     let t = c .before .before .before .before .before .args .t in
@@ -33,22 +27,20 @@ returns-2 c =
     c .is-not-lower .ensures ∙ ap (notLower t) (c .before .node-at2 .ensures .0)
     )
 
-use-count-requires : tie.Need-use-count-requires
-use-count-requires c κs = search needs
-
 returns-3 : tie.Need-returns-3
 returns-3 c =
-    simp (ne-eqb _ _ (c .before .before .if1 .left), ne-eqb _ _ (c .before .if2 .left)) (ap (λ n. not (eqb n 1)) (c .use-count .ensures))
+    simp (ne-eqb _ _ (c .before .before .if1 .left), ne-eqb _ _ (c .before .if2 .left))
+    (ap (λ n. not (eqb n 1)) (c .use-count .ensures))
 
 pub offending-spec : {M : Type 1} → statement M
 offending-spec =
     tie.close
     (tie.spec
     node-at-requires
-    is-malformed-requires
+    (λ c κs. search needs)
     returns
     node-at-requires-2
-    is-not-lower-requires
+    (λ c κs. search needs)
     returns-2
-    use-count-requires
+    (λ c κs. search needs)
     returns-3)

@@ -16,9 +16,6 @@ long c =
     head-passed 10 7 (now (c .before .before .before .before .args .rule)) tt (c .before .before .head-refusal .ensures)
     (c .if1 .left)
 
-head-refusal-requires : tie.Need-head-refusal-requires
-head-refusal-requires c κs = search needs
-
 returns : tie.Need-returns
 unfolding ruleTable
 returns c = part-refuses _ _ (c .before .before .head-refusal .ensures) (c .if1 .taken)
@@ -53,7 +50,7 @@ pub rule-refusal-spec : {M : Type 1} → statement M
 rule-refusal-spec =
     tie.close
     (tie.spec
-    head-refusal-requires
+    (λ c κs. search needs)
     returns
     size-refusal-requires
     returns-2

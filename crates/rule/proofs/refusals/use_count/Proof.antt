@@ -22,17 +22,8 @@ loop-holds c = (omega arith, omega arith, refl)
 node-at-requires : tie.Need-node-at-requires Inv-loop μ-loop
 node-at-requires c κs = omega (arith, c .before .before .before .pre .whole)
 
-uses-in-requires : tie.Need-uses-in-requires Inv-loop μ-loop
-uses-in-requires c κs = search needs
-
 add-count : tie.Need-add-count Inv-loop μ-loop
 add-count c = omega (arith, c .before .before .before .before .before .pre .few-nodes)
-
-add-t : tie.Need-add-t Inv-loop μ-loop
-add-t c = omega arith
-
-loop-less : tie.Need-loop-less Inv-loop μ-loop
-loop-less c = omega arith
 
 loop-again : tie.Need-loop-again Inv-loop μ-loop
 unfolding uses
@@ -56,9 +47,9 @@ use-count-spec =
     μ-loop
     loop-holds
     node-at-requires
-    uses-in-requires
+    (λ c κs. search needs)
     add-count
-    add-t
-    loop-less
+    (λ c. omega arith)
+    (λ c. omega arith)
     loop-again
     returns)

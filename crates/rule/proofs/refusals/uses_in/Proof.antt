@@ -7,18 +7,6 @@ use Rattle.rule.specs.Refusals.{names, usesIn}
 use Rattle.rule.proofs.refusals.uses_in.Statement.{statement}
 use Rattle.rule.proofs.refusals.uses_in.Tie as tie
 
-form-requires : tie.Need-form-requires
-form-requires c κs = search needs
-
-named-requires : tie.Need-named-requires
-named-requires c κs = search needs
-
-named-requires-2 : tie.Need-named-requires-2
-named-requires-2 c κs = search needs
-
-add-result : tie.Need-add-result
-add-result c = search needs
-
 returns : tie.Need-returns
 unfolding usesIn
 returns c =
@@ -30,4 +18,4 @@ returns c =
 
 pub uses-in-spec : {M : Type 1} → statement M
 uses-in-spec =
-    tie.close (tie.spec form-requires named-requires named-requires-2 add-result returns)
+    tie.close (tie.spec (λ c κs. search needs) (λ c κs. search needs) (λ c κs. search needs) (λ c. search needs) returns)
