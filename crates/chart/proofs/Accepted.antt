@@ -10,7 +10,7 @@ use borrow.Author.Tests.{ltb-false, eqb-true, not-false}
 use Rattle.truth.proofs.Truth.{or-false}
 use Rattle.tctl.specs.Chart.{Arrow, upTo, noEnd, Within, states}
 use Rattle.outcome.specs.Refusal.{lowest}
-use Rattle.outcome.proofs.Place.{found-some}
+use Rattle.outcome.proofs.Found.{found-some}
 use Rattle.outcome.proofs.First.{unmet-at, zero-iff}
 use Rattle.outcome.proofs.Unmet.{unmet-append-iff}
 use Rattle.outcome.proofs.Lowest.{none-below, some-lowest}

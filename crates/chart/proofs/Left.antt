@@ -9,7 +9,7 @@ use lib.Seq.{getD-set-same, getD-set-other}
 use lib.Dec.{eqb}
 use borrow.Author.Tests.{eq-eqb, ne-eqb}
 use Rattle.outcome.specs.Refusal.{lowest}
-use Rattle.outcome.proofs.Place.{found-here, found-other}
+use Rattle.outcome.proofs.Found.{found-here, found-other}
 use Rattle.chart.specs.Bytes.{arrowWords}
 use Rattle.chart.specs.Refusals.{leftBy}
 

@@ -1,17 +1,17 @@
 -- Check's table by parts: the rows of the chart, of the rule and of the room lent, then 19.
 use mathlib.Core.Path.{_≡_, refl, sym, ap}
-use mathlib.Core.Logic.{_⊎_, inl, inr, _↔_, Iff·rfl, Iff·trans, Iff·and}
+use mathlib.Core.Logic.{_⊎_, _↔_, Iff·rfl, Iff·trans, Iff·and}
 use mathlib.Core.List.{List, [], _∷_, _++_}
-use mathlib.Core.Option.{Option, none, some}
+use mathlib.Core.Option.{none}
 use Prim.Native.Nat.{ℕ, _*_, _≤_}
 use native.Mathlib.Omega.{arith}
 use lib.ListN.{length}
 use borrow.Author.Tests.{ltb-false, le-ltb}
 use Rattle.outcome.specs.declared.Outcome.{Outcome}
-use Rattle.outcome.specs.Refusal.{Row, refuse, whole, first}
+use Rattle.outcome.specs.Refusal.{Row, whole, first}
 use Rattle.outcome.proofs.Place.{whole-none}
 use Rattle.outcome.specs.Met.{Unmet, end}
-use Rattle.outcome.proofs.First.{Numbered, part-zero, part-refuses, part-passes, zero-iff}
+use Rattle.outcome.proofs.First.{Numbered, alone, part-zero, part-refuses, part-passes, zero-iff}
 use Rattle.outcome.proofs.Unmet.{unmet-more, unmet-row, unmet-append-iff}
 use Rattle.outcome.proofs.Bounded.{number-le}
 use Rattle.chart.specs.Bytes.{stateCount}
@@ -128,12 +128,6 @@ module _ (chart rule marks scratch : List ℕ) where
 
       pub input-passes : Admitted chart rule marks scratch
       input-passes = admitted (zero-iff inputs input-numbered .0 (part-zero inputs e z))
-
--- a row by itself answers its number, or 0
-alone : (n : ℕ) (p : Option ℕ) → (first (refuse n p ∷ []) .number ≡ 0) ⊎ (first (refuse n p ∷ []) .number ≡ n)
-unfolding first
-alone n none = inl refl
-alone n (some i) = inr refl
 
 pub loop-number :
     (chart : List ℕ) → (first (loopRow chart ∷ []) .number ≡ 0) ⊎ (first (loopRow chart ∷ []) .number ≡ 19)

@@ -9,7 +9,7 @@ use Rattle.truth.proofs.Compare.{eqb-iff, leb-iff}
 use Rattle.tctl.specs.Chart.{Arrow, Most, upTo, noEnd}
 use Rattle.tctl.specs.Detail.{Contains, Covers}
 use Rattle.outcome.specs.Refusal.{lowest}
-use Rattle.outcome.proofs.Place.{found-some}
+use Rattle.outcome.proofs.Found.{found-some}
 use Rattle.outcome.proofs.Lowest.{some-lowest, offender-found}
 use Rattle.chart.specs.Bytes.{arrowCount, arrowWords, arrowOf, chartOf}
 use Rattle.chart.proofs.Chart.{arrow-mem, arrow-of}

@@ -27,6 +27,10 @@ Covered G go base k vs =
     (s : ℕ) → s < states G → (w : ℕ) → (p : Path G (Yes go) (λ x. base x ≤ w) s) → steps p ≤ k →
     num vs s ≤ minutes p + w
 
+-- no arrow lowers a number
+abbrev pub Quiet : Chart → (ℕ → Bool) → List ℕ → Type 0
+Quiet G go vs = (a : Arrow) → List·Memᴰ a (G .arrows) → Lowered go a vs vs
+
 -- numbers on their way down: each is its state's base or less, and a path's
 pub record Falling (G : Chart) (go : ℕ → Bool) (base : ℕ → ℕ) (vs : List ℕ) : Type 0 where
   pub size : length vs ≡ states G
@@ -114,8 +118,7 @@ module _ {G : Chart} (dr : Drawn G) (go : ℕ → Bool) (base : ℕ → ℕ) whe
 
   -- if no arrow lowers a number
   pub quiet-covered :
-      {vs : List ℕ} → Falling G go base vs → ((a : Arrow) → List·Memᴰ a (G .arrows) → Lowered go a vs vs) →
-      (k : ℕ) → Covered G go base k vs
+      {vs : List ℕ} → Falling G go base vs → Quiet G go vs → (k : ℕ) → Covered G go base k vs
   quiet-covered fall quiet zero = covered-start fall
   quiet-covered {vs} fall quiet (suc k) = covered-suc vs fall quiet (quiet-covered fall quiet k)
 

@@ -1,20 +1,20 @@
 -- `least` finds the fewest minutes of a path.
 use mathlib.Core.Path.{_≡_, ap}
 use mathlib.Core.Logic.{_↔_, ⊎-elim}
-use mathlib.Core.List.{List, List·Memᴰ}
+use mathlib.Core.List.{List}
 use mathlib.Core.Bool.{Bool, cond}
 use Prim.Native.Nat.{ℕ, zero, suc, _≤_, _<_}
 use native.Mathlib.Omega.{arith}
 use Rattle.truth.proofs.Truth.{Yes, true-or-false}
 use Rattle.tctl.specs.Tabulate.{tabulate}
-use Rattle.tctl.specs.Chart.{Chart, Arrow, states}
+use Rattle.tctl.specs.Chart.{Chart, states}
 use Rattle.tctl.proofs.Tabulate.{length-tabulate, getD-tabulate}
 use Rattle.tctl.proofs.Drawn.{Drawn}
 use Rattle.tctl.proofs.Path.{Path, steps, minutes, weaken, minutes-weaken}
 use Rattle.tctl.proofs.Loop.{shorten}
 use Rattle.model.specs.Engine.{num, rounds, lower, least}
-use Rattle.model.proofs.Lower.{Lowered}
 use Rattle.model.proofs.Falling.{
+  Quiet,
   Covered,
   Falling,
   falling-start,
@@ -50,7 +50,7 @@ module _ {G : Chart} (dr : Drawn G) (go : ℕ → Bool) (base : ℕ → ℕ) whe
 
   -- numbers that fall as those of the rounds do, and that no arrow lowers, are theirs
   pub least-is :
-      {vs : List ℕ} → Falling G go base vs → ((a : Arrow) → List·Memᴰ a (G .arrows) → Lowered go a vs vs) →
+      {vs : List ℕ} → Falling G go base vs → Quiet G go vs →
       vs ≡ rounds (lower go) (states G) (G .arrows) (tabulate (states G) base)
   unfolding after
   least-is fall quiet =

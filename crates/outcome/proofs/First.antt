@@ -1,6 +1,6 @@
 -- The first row that is met.
 use mathlib.Core.Path.{_≡_, refl, sym, ap, _∙_}
-use mathlib.Core.Logic.{_↔_}
+use mathlib.Core.Logic.{_⊎_, inl, inr, _↔_}
 use mathlib.Core.List.{List, [], _∷_, _++_}
 use mathlib.Core.Option.{Option, none, some}
 use Prim.Native.Nat.{ℕ, zero, suc, _<_}
@@ -31,6 +31,12 @@ zero-unmet [] h e = end
 zero-unmet (refuse zero p ∷ rows) h e = absurd h
 zero-unmet (refuse (suc n) none ∷ rows) h e = passed (suc n) (zero-unmet rows h e)
 zero-unmet (refuse (suc n) (some i) ∷ rows) h e = absurd (let z : ⊥ = omega arith in z)
+
+-- a row by itself answers its number, or 0
+pub alone : (n : ℕ) (p : Option ℕ) → (first (refuse n p ∷ []) .number ≡ 0) ⊎ (first (refuse n p ∷ []) .number ≡ n)
+unfolding first
+alone n none = inl refl
+alone n (some i) = inr refl
 
 -- the place of row i, counted from 0, if its condition is met
 abbrev pub placeAt : List Row → ℕ → Option ℕ

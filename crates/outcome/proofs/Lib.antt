@@ -1,4 +1,5 @@
 pub mod Place
+pub mod Found
 pub mod Lowest
 pub mod First
 pub mod Unmet

@@ -2,12 +2,12 @@
 use mathlib.Core.Path.{_≡_, refl, sym, ap, subst, _∙_}
 use mathlib.Core.Logic.{_↔_}
 use mathlib.Core.Bool.{Bool, true, false, false≢true}
-use mathlib.Core.Option.{Option, none, some}
+use mathlib.Core.Option.{Option, none, some, Option·none-ne-some}
 use Prim.Native.Nat.{ℕ, zero, suc, _+_, _-_, _<_}
 use native.Mathlib.Decide.{ℕ-discrete}
 use native.Mathlib.Omega.{arith}
 use Rattle.outcome.specs.Refusal.{found, orElse, lowest}
-use Rattle.outcome.proofs.Place.{none≢some, or-none}
+use Rattle.outcome.proofs.Found.{or-none}
 
 -- i is the least number below k of which p says yes
 pub record Least (p : ℕ → Bool) (k i : ℕ) : Type 0 where
@@ -51,7 +51,7 @@ module _ (p : ℕ → Bool) where
 
   pub some-lowest : (k i : ℕ) → lowest p k ≡ some i → Least p k i
   unfolding lowest
-  some-lowest zero i e = absurd (none≢some e)
+  some-lowest zero i e = absurd (Option·none-ne-some i e)
   some-lowest (suc k) i e = turn (some-lowest k i) (lowest p k) refl (p k) refl e
     where
       turn :
@@ -68,7 +68,7 @@ module _ (p : ℕ → Bool) where
       turn ih none f true g e =
           let z : k ≡ i = cc in
           record { inside = omega arith; offends = ap p (sym z) ∙ g; under = λ j l. none-below k f j (omega arith) }
-      turn ih none f false g e = absurd (none≢some e)
+      turn ih none f false g e = absurd (Option·none-ne-some i e)
 
   -- an offender below k: there is a lowest one
   pub offender-found : {k i : ℕ} → i < k → p i ≡ true → found (lowest p k) ≡ true

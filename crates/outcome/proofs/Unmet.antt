@@ -1,17 +1,16 @@
 -- Tables of which no row is met: row by row, and part by part.
-use mathlib.Core.Path.{_≡_, refl, sym}
+use mathlib.Core.Path.{_≡_, refl}
 use mathlib.Core.Logic.{_↔_}
 use mathlib.Core.List.{List, [], _∷_, _++_}
-use mathlib.Core.Option.{Option, none, some}
+use mathlib.Core.Option.{Option, none, some, Option·some-ne-none}
 use Prim.Native.Nat.{ℕ}
 use Rattle.outcome.specs.Refusal.{Row, refuse}
-use Rattle.outcome.proofs.Place.{none≢some}
 use Rattle.outcome.specs.Met.{Unmet, end, passed}
 
 -- one row more, whose condition is not met
 pub unmet-more : {n : ℕ} {p : Option ℕ} {rows : List Row} → p ≡ none → Unmet rows → Unmet (refuse n p ∷ rows)
 unmet-more {n} {p = none} e u = passed n u
-unmet-more {p = some i} e u = absurd (none≢some (sym e))
+unmet-more {p = some i} e u = absurd (Option·some-ne-none i e)
 
 -- the first row's condition is not met, nor are those after it
 pub unmet-row : {n : ℕ} {p : Option ℕ} {rows : List Row} → Unmet (refuse n p ∷ rows) → (p ≡ none) × Unmet rows

@@ -11,9 +11,9 @@ use Rattle.rule.proofs.Accepted.{Accepted, lower-a, lower-b}
 use Rattle.settle.specs.Visits.{visitsBy, visits}
 
 -- two counts agree if they agree where they count
-cond-same : (b : Bool) {x y : ℕ} → (b ≡ true → x ≡ y) → cond b x 0 ≡ cond b y 0
-cond-same true f = f refl
-cond-same false f = refl
+count-same : (b : Bool) {x y : ℕ} → (b ≡ true → x ≡ y) → cond b x 0 ≡ cond b y 0
+count-same true f = f refl
+count-same false f = refl
 
 module _ {s : List ℕ} (acc : Accepted s) where
   -- any depth above the node's number gives the same count: each operand's number is lower by one at least
@@ -23,10 +23,10 @@ module _ {s : List ℕ} (acc : Accepted s) where
   depth-same (suc d) zero t u l h k = absurd (let z : ⊥ = omega arith in z)
   depth-same (suc d) (suc e) t u l h k =
       let op = nodeWords s t .operation in
-      let x = cond-same (leb 2 op) (λ g.
+      let x = count-same (leb 2 op) (λ g.
       let v = lower-a acc t l (leb-true 2 op g) in
       depth-same d e (nodeWords s t .a) u (omega arith) (omega arith) (omega arith)) in
-      let y = cond-same (leb 3 op) (λ g.
+      let y = count-same (leb 3 op) (λ g.
       let v = lower-b acc t l (leb-true 3 op g) in
       depth-same d e (nodeWords s t .b) u (omega arith) (omega arith) (omega arith)) in
       omega (arith, x, y)
@@ -41,10 +41,10 @@ module _ {s : List ℕ} (acc : Accepted s) where
   unfolding visitsBy
   visits-at t u l =
       let op = nodeWords s t .operation in
-      let x = cond-same (leb 2 op) (λ g.
+      let x = count-same (leb 2 op) (λ g.
       let v = lower-a acc t l (leb-true 2 op g) in
       depth-same t (suc (nodeWords s t .a)) (nodeWords s t .a) u (omega arith) v (omega arith)) in
-      let y = cond-same (leb 3 op) (λ g.
+      let y = count-same (leb 3 op) (λ g.
       let v = lower-b acc t l (leb-true 3 op g) in
       depth-same t (suc (nodeWords s t .b)) (nodeWords s t .b) u (omega arith) v (omega arith)) in
       omega (arith, x, y)
