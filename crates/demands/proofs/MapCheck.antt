@@ -1,4 +1,4 @@
--- Map check accepts just where the premises of the detail rule hold.
+-- Map check accepts just where its premises hold.
 use mathlib.Core.Path.{_≡_}
 use mathlib.Core.Logic.{_↔_, Iff·rfl, Iff·symm, Iff·trans, Iff·and}
 use mathlib.Core.List.{List, _++_}
@@ -13,7 +13,7 @@ use Rattle.loops.proofs.Accepted.{unmet-iff}
 use Rattle.detail.specs.Refusals.{overviewTable, mapTable, mapCheckTable, mapRefusal}
 use Rattle.detail.proofs.Under.{map-iff}
 use Rattle.detail.proofs.Overview.{overview-iff}
-use Rattle.demands.specs.DetailRule.{Premises}
+use Rattle.demands.specs.DetailRule.{Premises, MapCheckExact}
 
 module _ (d o p : List ℕ) where
   numbered : Numbered (mapCheckTable d o p) × Numbered (mapTable d o p)
@@ -31,11 +31,14 @@ module _ (d o p : List ℕ) where
       Iff·trans (unmet-append-iff (x ++ y) (mapTable d o p)) (Iff·and charts Iff·rfl)
 
   -- Part by part: the rows of each chart ask that it be accepted, those of the map its format and that it join the two.
-  pub map-check-exact : (mapRefusal d o p ≡ success) ↔ Premises d o p
-  map-check-exact =
+  accepts-iff : (mapRefusal d o p ≡ success) ↔ Premises d o p
+  accepts-iff =
       let map = Iff·trans (Iff·symm (success-iff (mapTable d o p) (numbered .1))) (map-iff d o p) in
       let parts = Iff·trans parts-iff (Iff·and (Iff·and (unmet-iff d) (unmet-iff o)) map) in
       Iff·trans (Iff·trans (success-iff (mapCheckTable d o p) (numbered .0)) parts) (
         λ w. record { detail = w .0 .0; overview = w .0 .1; map = w .1 .0; under = w .1 .1 },
         λ h. ((h .detail, h .overview), (h .map, h .under)),
       )
+
+pub map-check-exact : MapCheckExact
+map-check-exact = accepts-iff

@@ -1,5 +1,6 @@
 -- The third demand, the detail rule. The quoted sentences are of 01.
 use mathlib.Core.Path.{_≡_}
+use mathlib.Core.Logic.{_↔_}
 use mathlib.Core.Bool.{true}
 use mathlib.Core.List.{List}
 use Prim.Native.Nat.{ℕ, _+_, _*_, _-_}
@@ -18,14 +19,18 @@ use Rattle.detail.specs.Bytes.{entry, MapFormat}
 use Rattle.detail.specs.Refusals.{mapRefusal}
 use Rattle.checker.specs.Check.{Checked}
 
--- what the detail rule asks of a detail chart d, an overview o and a map p: both charts accepted, the map in its
--- format, and the detail one under the overview
+-- what map check asks of a detail chart d, an overview o and a map p: both charts accepted, the map in its format, and
+-- the detail one under the overview
 pub record Premises (d o p : List ℕ) : Type 0 where
   pub detail : AcceptedChart d
   pub overview : AcceptedChart o
   pub map : MapFormat p (stateCount d)
   -- a state s "stands for the overview state that entry" s "of the map names"
   pub under : Detail (chartOf d) (chartOf o) (entry p)
+
+-- map check accepts just that
+abbrev pub MapCheckExact : Type 0
+MapCheckExact = (d o p : List ℕ) → (mapRefusal d o p ≡ success) ↔ Premises d o p
 
 -- check "has accepted that chart with that rule", and left these marks; "marks table and scratch are any that check
 -- accepts"

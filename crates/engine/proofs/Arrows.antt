@@ -22,10 +22,11 @@ use Rattle.hints.proofs.Values.{value-at, values-length, values-set}
 use Rattle.engine.specs.declared.Change.{Change}
 use Rattle.engine.specs.declared.Change.the-variants.{Lower, Raise}
 use Rattle.engine.specs.declared.Climb.{Climb}
-use Rattle.engine.specs.Change.{highest, seen, changeOf, left}
+use Rattle.engine.specs.Change.{highest, seen, changeOf}
+use Rattle.engine.specs.Sweep.{left}
 use Rattle.engine.specs.Parts.{Lent, Placed, Changed, Altered}
 use Rattle.engine.proofs.Total.{total-set}
-use Rattle.engine.proofs.Limits.{seen-length}
+use Rattle.engine.proofs.Lent.{seen-length}
 
 -- arrow i of a chart that passed names states
 pub placed :

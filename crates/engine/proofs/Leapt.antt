@@ -7,10 +7,11 @@ use native.Mathlib.Omega.{arith}
 use lib.ListN.{length, length-set}
 use Rattle.tctl.specs.Chart.{Chart}
 use Rattle.model.proofs.Numbers.{numbers-set}
-use Rattle.engine.specs.Change.{highest, total}
+use Rattle.engine.specs.Change.{highest}
+use Rattle.engine.specs.Sweep.{total}
 use Rattle.engine.specs.Parts.{Lent, Leapt, none, more}
 use Rattle.engine.proofs.Total.{total-set}
-use Rattle.engine.proofs.Limits.{lent-as}
+use Rattle.engine.proofs.Lent.{lent-as}
 
 module _ {G : Chart} {go : ℕ → Bool} {n cap : ℕ} where
   -- leaps, and then further leaps

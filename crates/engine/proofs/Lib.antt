@@ -1,5 +1,6 @@
 pub mod Total
 pub mod Weights
+pub mod Lent
 pub mod Limits
 pub mod Arrows
 pub mod Tried

@@ -12,7 +12,7 @@ use Rattle.tctl.specs.Tabulate.{tabulate}
 use Rattle.tctl.proofs.Tabulate.{mem-tabulate, tabulate-mem}
 use Rattle.tctl.proofs.Drawn.{Drawn}
 use Rattle.tctl.proofs.Path.{Path, stop, step, minutes}
-use Rattle.model.specs.Engine.{num, rounds, raise, greatest}
+use Rattle.model.specs.Engine.{num, rounds, raise, greatest, lowered, raised}
 use Rattle.model.specs.Marks.{flag}
 use Rattle.model.specs.Weighed.{weighing, weighed, weighedChart}
 use Rattle.model.proofs.RoundLaws.{round-map}
@@ -31,9 +31,11 @@ use Rattle.chart.proofs.Reading.{has-states, drawn}
 use Rattle.hints.specs.Circle.{Leads, here, next}
 use Rattle.engine.specs.declared.Change.{Change}
 use Rattle.engine.specs.declared.Change.the-variants.{Lower, Raise}
-use Rattle.engine.specs.Change.{highest, top, changeOf, turned, listed, lowered, raised}
+use Rattle.engine.specs.Change.{highest, top, changeOf}
+use Rattle.engine.specs.Sweep.{turned, listed}
 use Rattle.engine.specs.Parts.{Lent, Swept, Leapt, none, more}
-use Rattle.engine.proofs.Limits.{lent-as, round-limit}
+use Rattle.engine.proofs.Lent.{lent-as}
+use Rattle.engine.proofs.Limits.{round-limit}
 use Rattle.engine.proofs.Tried.{turned-below, turned-twice}
 use Rattle.engine.proofs.Weights.{weighed-rounds}
 

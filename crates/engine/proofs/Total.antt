@@ -5,7 +5,7 @@ use Prim.Native.Nat.{ℕ, zero, suc, _+_, _<_}
 use native.Mathlib.Omega.{arith}
 use lib.ListN.{length, set}
 use Rattle.model.specs.Engine.{num}
-use Rattle.engine.specs.Change.{total}
+use Rattle.engine.specs.Sweep.{total}
 
 pub total-set :
     (f : ℕ → ℕ) (vs : List ℕ) (i v : ℕ) → i < length vs → total f (set vs i v) + f (num vs i) ≡ total f vs + f v

@@ -18,9 +18,11 @@ use Rattle.model.specs.Marks.{flag}
 use Rattle.model.proofs.RoundLaws.{round-last}
 use Rattle.chart.specs.Bytes.{arrowWords, arrowOf}
 use Rattle.engine.specs.declared.Change.{Change}
-use Rattle.engine.specs.Change.{highest, top, changeOf, left, turned, listed}
+use Rattle.engine.specs.Change.{highest, top, changeOf}
+use Rattle.engine.specs.Sweep.{left, turned, listed}
 use Rattle.engine.specs.Parts.{Lent, Changed, Swept}
-use Rattle.engine.proofs.Limits.{lent-as, round-limit}
+use Rattle.engine.proofs.Lent.{lent-as}
+use Rattle.engine.proofs.Limits.{round-limit}
 
 -- arrow i
 abbrev arrow : List ℕ → ℕ → Arrow

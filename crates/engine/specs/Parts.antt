@@ -12,7 +12,8 @@ use Rattle.chart.specs.declared.ArrowWords.{ArrowWords}
 use Rattle.chart.specs.Shape.{Slot, Passed}
 use Rattle.hints.specs.Circle.{Circled}
 use Rattle.engine.specs.declared.Change.{Change}
-use Rattle.engine.specs.Change.{highest, seen, changeOf, left, listed}
+use Rattle.engine.specs.Change.{highest, seen, changeOf}
+use Rattle.engine.specs.Sweep.{left, listed}
 
 -- a chart that passes checks 1 to 9, a row of marks and numbers for its states
 pub record Lent (chart : List ℕ) (n m : ℕ) (go vs : List ℕ) : Type 0 where
@@ -20,7 +21,8 @@ pub record Lent (chart : List ℕ) (n m : ℕ) (go vs : List ℕ) : Type 0 where
   pub row : length go ≡ n
   pub numbers : Numbers n highest vs
 
--- the words of an arrow between states that have a mark and a number, none above the highest for the change
+-- the words of an arrow, in range, between states that have a mark and a number; none that the change sees is above the
+-- highest
 pub record Placed (change : Change) (w : ArrowWords) (go ns : List ℕ) : Type 0 where
   pub slot : Slot w
   pub start : w .start < length ns

@@ -5,13 +5,14 @@ ghost use mathlib.Core.Path.{_≡_};
 ghost use mathlib.Core.Bool.{cond, _&&_};
 ghost use Prim.Native.Nat.{_+_, _≤_, _<_, min};
 ghost use lib.Dec.{eqb, ltb};
-ghost use Rattle.model.specs.Engine.{offer};
+ghost use Rattle.model.specs.Engine.{offer, lowered, raised};
 ghost use Rattle.model.specs.Marks.{flag};
 ghost use Rattle.model.specs.Weighed.{weight, weighed};
 ghost use Rattle.chart.specs.Bytes.{arrowWords, mostOf, chartOf};
 ghost use Rattle.chart.specs.Shape.{Ends};
 ghost use Rattle.hints.specs.Values.{values};
-ghost use Rattle.engine.specs.Change.{highest, top, seen, turned, lowered, raised};
+ghost use Rattle.engine.specs.Change.{highest, top, seen};
+ghost use Rattle.engine.specs.Sweep.{turned};
 ghost use Rattle.engine.specs.Parts.{Lent, Placed, Altered, Swept, Leapt};
 use chart::ArrowWords;
 
@@ -335,7 +336,7 @@ fn rise(chart: &[u8], n: usize, m: usize, ticks: bool, cap: u32, go: &[u8], numb
     }
 }
 
-// The greatest fixpoint.
+// The greatest minutes: numbers are raised until no arrow raises one, and then their hints are taken off.
 pub fn greatest(
     chart: &[u8],
     n: usize,

@@ -25,29 +25,3 @@ values-set (y ∷ ns) (suc s) x e = ap (λ vs. valueOf y ∷ vs) (values-set ns 
 pub values-same : (ns : List ℕ) → ((s : ℕ) → s < length ns → num ns s < 131072) → values ns ≡ ns
 values-same [] h = refl
 values-same (x ∷ ns) h = ap₂ _∷_ (omega (arith, h 0 (omega arith))) (values-same ns (λ s l. h (suc s) (omega arith)))
-
--- the hints of the first k numbers are taken off
-pub record Bared (k : ℕ) (old new : List ℕ) : Type 0 where
-  pub size : length new ≡ length old
-  pub same : values new ≡ values old
-  pub off : (s : ℕ) → s < k → num new s < 131072
-
-module _ {old : List ℕ} where
-  pub bared-none : Bared 0 old old
-  bared-none = record { size = refl; same = refl; off = λ s l. absurd (let z : ⊥ = omega arith in z) }
-
-  pub bared-more :
-      {k x : ℕ} {new : List ℕ} → k < length new → Bared k old new → x ≡ valueOf (num new k) →
-      Bared (k + 1) old (set new k x)
-  bared-more {k} {x} {new} l b e =
-      record {
-        size = length-set new k x ∙ b .size;
-        same = map-set-same valueOf new k x 0 (omega (arith, e)) ∙ b .same;
-        off = λ s h.
-            by-cases (ℕ-discrete s k)
-            (λ z. omega (arith, ap (num (set new k x)) z, getD-set-same new k x 0 l, e))
-            (λ z. omega (arith, getD-set-other new k s x 0 z, b .off s (omega arith)));
-      }
-
-  pub bared-all : {k : ℕ} {new : List ℕ} → length new ≤ k → Bared k old new → new ≡ values old
-  bared-all {new = new} l b = sym (values-same new (λ s h. b .off s (omega arith))) ∙ b .same

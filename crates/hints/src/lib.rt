@@ -1,5 +1,5 @@
 // Hints: for each state an arrow that it may leave by. It is kept above the value in the state's number, as 131,072
-// times one more than the arrow; a number below that has none. Nobody takes hints on trust: what is found by them is
+// times one more than the arrow; a number below 131,072 has none. Nobody takes hints on trust: what is found by them is
 // tested.
 ghost use mathlib.Core.Path.{_≡_};
 ghost use mathlib.Core.Bool.{true, cond};
@@ -46,7 +46,7 @@ pub fn bare(numbers: &mut [u32])
     }
 }
 
-// The hint of the number x: an arrow, or 2,048.
+// The hint of the number x: an arrow's number, or one that no arrow has.
 fn hint_of(x: u32) -> usize {
     if x < 131072 {
         return 2048;
@@ -74,7 +74,7 @@ pub fn follow(chart: &[u8], n: usize, m: usize, numbers: &[u32], from: usize) ->
 }
 
 // Time passed before, or can pass on an arrow with the word most.
-fn either(passes: bool, most: u32) -> bool
+fn time_passes(passes: bool, most: u32) -> bool
     ensures { λ r. ⌜ r ≡ cond (eqb most 0) passes true ⌝ }
 {
     if most != 0 {
@@ -112,7 +112,7 @@ pub fn circles(
         if go[at] != 1 {
             return false;
         }
-        passes = either(passes, a.most);
+        passes = time_passes(passes, a.most);
         at = a.end;
         if at == r {
             return passes;

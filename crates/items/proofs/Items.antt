@@ -1,5 +1,5 @@
--- The thirteen items are right about the meaning: one test that antt computes over the list, and one theorem that turns
--- it into Holds for every listed 1 and its refutation for every listed 0.
+-- The thirteen items are right about the meaning: one computed test over the list, and one theorem that turns it into
+-- Holds for every listed 1 and its refutation for every listed 0.
 use mathlib.Core.Path.{_≡_, refl, sym, ap, subst}
 use mathlib.Core.Logic.{_⊎_, inl, inr}
 use mathlib.Core.Bool.{Bool, true, false, cond, _&&_}
@@ -31,6 +31,7 @@ use Rattle.rule.specs.Formula.{formulaBy, formulaOf}
 use Rattle.loops.specs.Refusal.{loopRow, acceptedTable, acceptedRefusal}
 use Rattle.loops.proofs.Accepted.{accepted-only}
 use Rattle.items.specs.Items.{Item, items}
+use Rattle.items.specs.Right.{Right}
 
 -- chart and rule are accepted, there is a mark for each state, and each is 1 just where the engine says yes
 passes : Item → Bool
@@ -48,20 +49,6 @@ unfolding
     formOf nodeWords wrongKind wrongA malformed notLower usesIn uses ruleTable formulaBy
     round rounds lower raise least greatest someRow waits plainRow sureRow allRow row
 all-pass = refl
-
--- what an item promises
-pub record Right (it : Item) : Type 0 where
-  pub chart : Accepted (chartOf (it .chart))
-  pub rule : ruleRefusal (it .rule) .number ≡ 0
-  pub each : length (it .marks) ≡ states (chartOf (it .chart))
-  pub digit :
-      (s : ℕ) → s < states (chartOf (it .chart)) → (getD (it .marks) s 0 ≡ 1) ⊎ (getD (it .marks) s 0 ≡ 0)
-  pub marked :
-      (s : ℕ) → s < states (chartOf (it .chart)) → getD (it .marks) s 0 ≡ 1 →
-      Holds (chartOf (it .chart)) (formulaOf (it .rule)) s
-  pub unmarked :
-      (s : ℕ) → s < states (chartOf (it .chart)) → getD (it .marks) s 0 ≡ 0 →
-      Holds (chartOf (it .chart)) (formulaOf (it .rule)) s → ⊥
 
 one-or-zero : (b : Bool) → (_≡_ {A = ℕ} (cond b 1 0) 1) ⊎ (_≡_ {A = ℕ} (cond b 1 0) 0)
 one-or-zero true = inl refl

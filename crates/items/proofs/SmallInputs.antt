@@ -19,40 +19,23 @@ use Rattle.loops.specs.Refusal.{loopRow, acceptedTable, acceptedRefusal}
 use Rattle.detail.specs.Covered.{covered}
 use Rattle.detail.specs.Refusals.{noMap, mapTable, mapCheckTable, mapRefusal}
 use Rattle.checker.specs.Check.{checkTable, checkRefusal}
-use Rattle.items.specs.SmallInputs.{Refused, RefusedMap, RefusedCheck, charts, rules, maps, checks}
+use Rattle.items.specs.SmallInputs.{charts, rules, maps, checks, asListed, mapAsListed, checkAsListed}
 
--- the outcome has the number n and the place p
-abbrev pub is : Outcome → ℕ → ℕ → Bool
-is r n p = eqb (r .number) n && eqb (r .place) p
-
--- the refusal is the one that is listed
-abbrev pub as-listed : (List ℕ → Outcome) → Refused → Bool
-as-listed refusal x = is (refusal (x .bytes)) (x .number) (x .place)
-
-pub charts-refused : every (as-listed acceptedRefusal) charts ≡ true
+pub charts-refused : every (asListed acceptedRefusal) charts ≡ true
 unfolding every charts acceptedTable chartTable loopRow arrowWords chartOf tabulate leads leftBy lowest first
 charts-refused = refl
 
-pub rules-refused : every (as-listed ruleRefusal) rules ≡ true
+pub rules-refused : every (asListed ruleRefusal) rules ≡ true
 unfolding every rules ruleTable nodeWords formOf wrongKind wrongA malformed notLower usesIn uses lowest first
 rules-refused = refl
 
--- map check's refusal is the one that is listed
-abbrev pub map-as-listed : RefusedMap → Bool
-map-as-listed x = is (mapRefusal (x .detail) (x .overview) (x .map)) (x .number) (x .place)
-
-pub maps-refused : every map-as-listed maps ≡ true
+pub maps-refused : every mapAsListed maps ≡ true
 unfolding
     every maps mapCheckTable mapTable noMap covered acceptedTable chartTable loopRow arrowWords chartOf tabulate leads
     leftBy lowest first
 maps-refused = refl
 
--- check's refusal is the one that is listed, where so many zeros are lent
-abbrev pub check-as-listed : RefusedCheck → Bool
-check-as-listed x =
-    is (checkRefusal (x .chart) (x .rule) (replicate (x .marks) 0) (replicate (x .scratch) 0)) (x .number) (x .place)
-
-pub checks-refused : every check-as-listed checks ≡ true
+pub checks-refused : every checkAsListed checks ≡ true
 unfolding
     every checks checkTable chartTable loopRow arrowWords chartOf tabulate leads leftBy lowest first ruleTable nodeWords
     formOf wrongKind wrongA malformed notLower usesIn uses

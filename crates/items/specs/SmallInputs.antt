@@ -1,8 +1,13 @@
 -- The column "Small input" of 01's table, and inputs for what 01 says beside it, as "lowest
 -- state on one", "the same plus 40", "several joined don't count" and "'No end' contains every most".
+use mathlib.Core.Bool.{Bool, _&&_}
 use mathlib.Core.List.{List, [], _∷_, _++_}
 use Prim.Native.Nat.{ℕ, _+_, _/_}
-use lib.ListN.{length, take}
+use lib.ListN.{length, take, replicate}
+use lib.Dec.{eqb}
+use Rattle.outcome.specs.declared.Outcome.{Outcome}
+use Rattle.detail.specs.Refusals.{mapRefusal}
+use Rattle.checker.specs.Check.{checkRefusal}
 use Rattle.items.specs.Write.{word, arrow, chart, node, rule, map}
 use Rattle.items.specs.Items.{short, trueUntil, A, atMost}
 
@@ -149,3 +154,22 @@ checks =
     refusedCheck 18 0 (shortWith (arrow 1 1 0 4)) (trueUntil A 2 atMost 13) 9 0 ∷
     refusedCheck 19 1 (shortWith (arrow 1 1 0 4)) (trueUntil A 2 atMost 13) 9 12 ∷
     []
+
+-- ── As listed ──
+
+-- the outcome has the number n and the place p
+abbrev pub is : Outcome → ℕ → ℕ → Bool
+is r n p = eqb (r .number) n && eqb (r .place) p
+
+-- the refusal is the one that is listed
+abbrev pub asListed : (List ℕ → Outcome) → Refused → Bool
+asListed refusal x = is (refusal (x .bytes)) (x .number) (x .place)
+
+-- map check's refusal is the one that is listed
+abbrev pub mapAsListed : RefusedMap → Bool
+mapAsListed x = is (mapRefusal (x .detail) (x .overview) (x .map)) (x .number) (x .place)
+
+-- check's refusal is the one that is listed, where so many zeros are lent
+abbrev pub checkAsListed : RefusedCheck → Bool
+checkAsListed x =
+    is (checkRefusal (x .chart) (x .rule) (replicate (x .marks) 0) (replicate (x .scratch) 0)) (x .number) (x .place)

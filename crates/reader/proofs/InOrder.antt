@@ -14,22 +14,22 @@ use Rattle.chart.specs.Refusals.{chartRefusal}
 use Rattle.chart.specs.declared.ArrowWords.{ArrowWords}
 use Rattle.reader.specs.declared.Handed.{Handed}
 use Rattle.reader.specs.declared.Handed.the-variants.{Arrow, Finished}
-use Rattle.reader.specs.Reading.{arrowsIn, handedOf, handed, numberAfter, answers}
+use Rattle.reader.specs.Reading.{arrowsIn, entryAt, handed, numberAfter, answers, InOrder}
 
 -- ── Of a list of arrows ──
 
-entry-handed : (m : ℕ) (f : ℕ → ArrowWords) (i : ℕ) → i < m → handedOf (tabulate m f) i ≡ Arrow (f i)
-unfolding tabulate handedOf
+entry-handed : (m : ℕ) (f : ℕ → ArrowWords) (i : ℕ) → i < m → entryAt (tabulate m f) i ≡ Arrow (f i)
+unfolding tabulate entryAt
 entry-handed zero f i l = absurd (let z : ⊥ = omega arith in z)
 entry-handed (suc m) f zero l = refl
 entry-handed (suc m) f (suc i) l = entry-handed m (λ j. f (suc j)) i (omega arith)
 
-none-handed : (i : ℕ) → handedOf [] i ≡ Finished
-unfolding handedOf
+none-handed : (i : ℕ) → entryAt [] i ≡ Finished
+unfolding entryAt
 none-handed i = refl
 
-past-entries : (m : ℕ) (f : ℕ → ArrowWords) (i : ℕ) → m ≤ i → handedOf (tabulate m f) i ≡ Finished
-unfolding tabulate handedOf
+past-entries : (m : ℕ) (f : ℕ → ArrowWords) (i : ℕ) → m ≤ i → entryAt (tabulate m f) i ≡ Finished
+unfolding tabulate entryAt
 past-entries zero f i l = refl
 past-entries (suc m) f zero l = absurd (let z : ⊥ = omega arith in z)
 past-entries (suc m) f (suc i) l = past-entries m (λ j. f (suc j)) i (omega arith)
@@ -39,13 +39,13 @@ IsArrow (Arrow a) = Unit {0}
 IsArrow Finished = ⊥
 
 -- once finished, finished at every later number
-stays-finished : (l : List ArrowWords) (i j : ℕ) → handedOf l i ≡ Finished → handedOf l (i + j) ≡ Finished
-unfolding handedOf
+stays-finished : (l : List ArrowWords) (i j : ℕ) → entryAt l i ≡ Finished → entryAt l (i + j) ≡ Finished
+unfolding entryAt
 stays-finished [] i j e = refl
 stays-finished (a ∷ l) zero j e = absurd (subst IsArrow e tt)
 stays-finished (a ∷ l) (suc i) j e =
     let k : suc i + j ≡ suc (i + j) = omega arith in
-    ap (handedOf (a ∷ l)) k ∙ stays-finished l i j e
+    ap (entryAt (a ∷ l)) k ∙ stays-finished l i j e
 
 module _ (s : List ℕ) where
   passed-arrows : chartRefusal s .number ≡ 0 → arrowsIn s ≡ tabulate (arrowCount s) (arrowWords s)
@@ -69,7 +69,7 @@ module _ (s : List ℕ) where
   pub finished-past : (i : ℕ) → arrowCount s ≤ i → handed s i ≡ Finished
   unfolding handed arrowsIn
   finished-past i l =
-      cond-elim (λ a. handedOf a i ≡ Finished) (eqb (chartRefusal s .number) 0)
+      cond-elim (λ a. entryAt a i ≡ Finished) (eqb (chartRefusal s .number) 0)
       (λ e. past-entries (arrowCount s) (arrowWords s) i l) (λ e. none-handed i)
 
   -- Over bytes that don't pass checks 1 to 9 it says finished at once, at every number.
@@ -89,15 +89,13 @@ module _ (s : List ℕ) where
   next-handed i j (Arrow a) e = ap (handed s) (omega arith)
   next-handed i j Finished e = later-finished i j e ∙ sym (later-finished i (suc j) e)
 
-  -- For all bytes, numbers i and counts k: of k calls, call j counted from 0 answers what stands at i + j. So the
-  -- arrows come in order from that number, and then finished.
-  -- Proof: by induction on k. The first call answers what stands at i. If that is an arrow, the others start from
+  -- By induction on k. The first call answers what stands at i. If that is an arrow, the others start from
   -- i + 1. If it is finished, they start from i again, and finished is all that stands at i and at later numbers.
-  pub in-order : (i k : ℕ) → answers k s i ≡ tabulate k (λ j. handed s (i + j))
+  answers-from : (i k : ℕ) → answers k s i ≡ tabulate k (λ j. handed s (i + j))
   unfolding answers tabulate
-  in-order i zero = refl
-  in-order i (suc k) =
-      ap (λ l. handed s i ∷ l) (in-order (numberAfter (handed s i) i) k) ∙
+  answers-from i zero = refl
+  answers-from i (suc k) =
+      ap (λ l. handed s i ∷ l) (answers-from (numberAfter (handed s i) i) k) ∙
       (λ t. handed s (start t) ∷ tabulate k (λ j. next-handed i j (handed s i) refl t))
     where
       start : i ≡ i + 0
@@ -110,3 +108,8 @@ module _ (s : List ℕ) where
   pub arrows-drawn : chartRefusal s .number ≡ 0 → map arrowOf (arrowsIn s) ≡ chartOf s .arrows
   unfolding chartOf
   arrows-drawn e = ap (map arrowOf) (passed-arrows e) ∙ map-tabulate arrowOf (arrowCount s) (arrowWords s)
+
+-- Of k calls from number i, call j counted from 0 answers what stands at i + j, for all bytes: the arrows in order from
+-- that number, and then finished.
+pub in-order : InOrder
+in-order = answers-from

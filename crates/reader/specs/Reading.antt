@@ -1,4 +1,5 @@
 -- What a chart reader hands out. The quoted words are of 01, "Bytes of a chart, a rule and a map".
+use mathlib.Core.Path.{_≡_}
 use mathlib.Core.Bool.{cond}
 use mathlib.Core.List.{List, [], _∷_}
 use Prim.Native.Nat.{ℕ, zero, suc, _+_}
@@ -18,14 +19,14 @@ unfoldable pub arrowsIn : List ℕ → List ArrowWords
 arrowsIn s = cond (eqb (chartRefusal s .number) 0) (tabulate (arrowCount s) (arrowWords s)) []
 
 -- the arrow with this number; past the last one, "finished"
-unfoldable pub handedOf : List ArrowWords → ℕ → Handed
-handedOf [] i = Finished
-handedOf (a ∷ l) zero = Arrow a
-handedOf (a ∷ l) (suc i) = handedOf l i
+unfoldable pub entryAt : List ArrowWords → ℕ → Handed
+entryAt [] i = Finished
+entryAt (a ∷ l) zero = Arrow a
+entryAt (a ∷ l) (suc i) = entryAt l i
 
 -- what a reader of these bytes at this number "hands out"
 unfoldable pub handed : List ℕ → ℕ → Handed
-handed s i = handedOf (arrowsIn s) i
+handed s i = entryAt (arrowsIn s) i
 
 -- "the number of the next arrow", once an arrow was handed out; with none left it stays
 abbrev pub numberAfter : Handed → ℕ → ℕ
@@ -44,3 +45,7 @@ moved r = record { chart = r .chart; number = stepOf (now (r .chart)) (r .number
 unfoldable pub answers : ℕ → List ℕ → ℕ → List Handed
 answers zero s i = []
 answers (suc k) s i = handed s i ∷ answers k s (stepOf s i .number)
+
+-- "in order from that number", then "finished": call j, counted from 0, answers what stands j past that number
+abbrev pub InOrder : Type 0
+InOrder = (s : List ℕ) (i k : ℕ) → answers k s i ≡ tabulate k (λ j. handed s (i + j))

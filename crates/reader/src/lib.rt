@@ -1,5 +1,5 @@
-// The chart reader: it holds the lent bytes of a chart and the number of the next arrow. Each function over a reader is
-// proved by hand, and leaves the work to `step`, which takes a plain slice and a number.
+// The chart reader: it holds the lent bytes of a chart and the number of the next arrow. What it hands out is found by
+// `step`, which takes a plain slice and a number; the functions above it are thin, and proved by hand.
 ghost use mathlib.Core.Path.{_≡_};
 ghost use Rattle.reader.specs.Reading.{handed, stepOf, moved};
 use chart::ArrowWords;

@@ -1,6 +1,6 @@
 -- The numbers come and go without hints.
 use mathlib.Core.Path.{_∙_}
-use Rattle.engine.proofs.Limits.{lent-bare}
+use Rattle.engine.proofs.Lent.{lent-bare}
 use borrow.Author.Needs.{needs}
 use Rattle.engine.proofs.greatest.Statement.{statement}
 use Rattle.engine.proofs.greatest.Tie as tie

@@ -11,7 +11,7 @@ use Rattle.chart.proofs.Reading.{shaped}
 use Rattle.hints.specs.Values.{values}
 use Rattle.hints.proofs.Values.{value-at, values-set}
 use Rattle.engine.specs.Parts.{Leapt, none, more}
-use Rattle.engine.proofs.Limits.{lent-length}
+use Rattle.engine.proofs.Lent.{lent-length}
 use borrow.Author.Needs.{needs}
 use Rattle.engine.proofs.leap.Statement.{statement}
 use Rattle.engine.proofs.leap.Tie as tie

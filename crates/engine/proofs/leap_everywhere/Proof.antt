@@ -7,7 +7,7 @@ use Rattle.model.specs.Marks.{flag}
 use Rattle.chart.specs.Bytes.{chartOf}
 use Rattle.hints.specs.Values.{values}
 use Rattle.engine.specs.Parts.{Leapt, none}
-use Rattle.engine.proofs.Limits.{lent-length}
+use Rattle.engine.proofs.Lent.{lent-length}
 use Rattle.engine.proofs.Leapt.{leapt-both, leapt-lent}
 use Rattle.engine.proofs.leap_everywhere.Statement.{statement}
 use Rattle.engine.proofs.leap_everywhere.Tie as tie

@@ -1,6 +1,6 @@
 -- A leap where the hints lead, then leaps everywhere.
 use denote.Ref.{now}
-use Rattle.engine.proofs.Limits.{lent-length}
+use Rattle.engine.proofs.Lent.{lent-length}
 use Rattle.engine.proofs.Leapt.{leapt-both, leapt-lent}
 use borrow.Author.Needs.{needs}
 use Rattle.engine.proofs.leaps.Statement.{statement}

@@ -1,10 +1,10 @@
 -- Invariant: the numbers are on their way down.
 use Rattle.engine.specs.declared.Change.the-variants.{Lower}
-use Rattle.engine.specs.Change.{left}
+use Rattle.engine.specs.Sweep.{left}
 use Rattle.engine.specs.Parts.{Lent}
 use native.Mathlib.Omega.{arith}
 use denote.Ref.{now}
-use Rattle.engine.proofs.Limits.{lent-size}
+use Rattle.engine.proofs.Lent.{lent-size}
 use Rattle.engine.proofs.Sweeps.{Falls, swept-lent, falls-none, falls-more, falls-all}
 use Rattle.engine.proofs.least.Statement.{statement}
 use Rattle.engine.proofs.least.Tie as tie

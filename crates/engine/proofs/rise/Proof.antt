@@ -5,9 +5,9 @@ use native.Mathlib.Omega.{arith}
 use borrow.Author.Tests.{leb-true}
 use denote.Ref.{now}
 use Rattle.hints.specs.Values.{values}
-use Rattle.engine.specs.Change.{total}
+use Rattle.engine.specs.Sweep.{total}
 use Rattle.engine.specs.Parts.{Lent}
-use Rattle.engine.proofs.Limits.{lent-length}
+use Rattle.engine.proofs.Lent.{lent-length}
 use Rattle.engine.proofs.Leapt.{leapt-lent, leapt-total}
 use Rattle.engine.proofs.Sweeps.{
   Rises,

@@ -4,7 +4,7 @@ use Prim.Native.Nat.{_≤_, _-_}
 use native.Mathlib.Omega.{arith}
 use denote.Ref.{now}
 use Rattle.engine.specs.Change.{seen}
-use Rattle.engine.proofs.Limits.{lent-size, seen-length}
+use Rattle.engine.proofs.Lent.{lent-size, seen-length}
 use Rattle.engine.proofs.Tried.{Tried, turned-below, tried-none, tried-more, tried-lent, tried-all}
 use Rattle.engine.proofs.sweep.Statement.{statement}
 use Rattle.engine.proofs.sweep.Tie as tie

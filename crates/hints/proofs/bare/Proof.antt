@@ -2,7 +2,7 @@
 use Prim.Native.Nat.{_≤_, _-_}
 use native.Mathlib.Omega.{arith}
 use lib.ListN.{length}
-use Rattle.hints.proofs.Values.{Bared, bared-none, bared-more, bared-all}
+use Rattle.hints.proofs.Bared.{Bared, bared-none, bared-more, bared-all}
 use Rattle.hints.proofs.bare.Statement.{statement}
 use Rattle.hints.proofs.bare.Tie as tie
 

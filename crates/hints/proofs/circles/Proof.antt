@@ -45,12 +45,12 @@ returns-3 c = λ e. absurd (false≢true e)
 
 -- one arrow more
 more :
-    (c : tie.After-either Inv-loop μ-loop) →
+    (c : tie.After-time-passes Inv-loop μ-loop) →
     let read = c .before .before .before .before .before in
     let start = read .before .before .before .before .before .before .before .before .before in
     (read .arrow-at .result .end < start .args .n) ×
     Led (chartOf (now (start .args .chart))) (flag (now (start .args .go))) (start .args .r)
-    (read .arrow-at .result .end) (c .either .result)
+    (read .arrow-at .result .end) (c .time-passes .result)
 more c =
     let marked = c .before in
     let left = marked .before .before in
@@ -65,7 +65,7 @@ more c =
     let l : i < arrowCount chart = omega (arith, read .before .if1 .left, start .pre .0 .arrows) in
     let mem = subst (λ v. List·Memᴰ (arrowOf v) (chartOf chart .arrows)) (sym e) (arrow-mem chart i l) in (
       omega (arith, arrow-ends (start .pre .0) i (read .before .if1 .left) .1, ap (λ v. v .end) e),
-      led-more (at-loop .loop .inv .2) w mem (left .if2 .left) (eq-eqb _ _ (marked .if3 .left)) (c .either .ensures),
+      led-more (at-loop .loop .inv .2) w mem (left .if2 .left) (eq-eqb _ _ (marked .if3 .left)) (c .time-passes .ensures),
     )
 
 returns-4 : tie.Need-returns-4 Inv-loop μ-loop

@@ -1,5 +1,5 @@
--- `reader::hand_out` meets its contract: a walk of its MIR, by hand. The reader that `new` makes is held in a local,
--- where MIR erases its lifetime, and passed on to `peek`. All that is known of the two is that each meets its contract.
+-- `reader::hand_out` meets its contract: step by step, by hand. The reader that `new` makes is held in a local,
+-- where its lifetime has no name, and passed on to `peek`. All that is known of the two is that each meets its contract.
 use mathlib.Core.Path.{_≡_, refl, _∙_}
 use Prim.Native.Nat.{ℕ, _<_, _^_}
 use mathlib.Core.List.{List, [], _∷_}
