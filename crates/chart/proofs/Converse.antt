@@ -8,7 +8,7 @@ use lib.Dec.{eqb}
 use borrow.Author.Tests.{lt-leb, eq-eqb}
 use Rattle.tctl.specs.Chart.{Arrow}
 use Rattle.tctl.specs.Accepted.{Accepted}
-use Rattle.outcome.proofs.Place.{equal-none, inside-none}
+use Rattle.outcome.proofs.Whole.{equal-none, inside-none}
 use Rattle.outcome.specs.Met.{Unmet, end}
 use Rattle.outcome.proofs.Unmet.{unmet-more, unmet-append-iff}
 use Rattle.outcome.proofs.Lowest.{lowest-none, offender-found}
@@ -18,7 +18,7 @@ use Rattle.chart.specs.Bytes.{stateCount, arrowCount, arrowWords, chartO
 use Rattle.chart.specs.Shape.{Shape}
 use Rattle.chart.specs.Refusals.{chartTable, namesNoState, emptySlot, leftBy}
 use Rattle.chart.specs.declared.ArrowWords.{ArrowWords}
-use Rattle.chart.proofs.Accepted.{WellFormed}
+use Rattle.chart.proofs.WellFormed.{WellFormed}
 use Rattle.chart.proofs.Chart.{states-of, arrow-mem, arrow-of}
 
 -- ── The conditions of an arrow ──

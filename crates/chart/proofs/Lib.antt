@@ -3,6 +3,6 @@ pub mod Most
 pub mod Left
 pub mod Passed
 pub mod Chart
-pub mod Accepted
+pub mod WellFormed
 pub mod Converse
 pub mod Reading

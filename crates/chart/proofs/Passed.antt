@@ -11,7 +11,7 @@ use borrow.Author.Tests.{leb-false}
 use Rattle.truth.proofs.Truth.{or-false}
 use Rattle.outcome.specs.declared.Outcome.{Outcome}
 use Rattle.outcome.specs.Refusal.{whole, outside, lowest, first, rows}
-use Rattle.outcome.proofs.Place.{whole-none, none-equal, inside}
+use Rattle.outcome.proofs.Whole.{whole-none, none-equal, inside}
 use Rattle.outcome.proofs.First.{unmet-at}
 use Rattle.outcome.proofs.Lowest.{none-below}
 use Rattle.chart.specs.Bytes.{stateCount, arrowCount, chartLength, arrowWords}

@@ -11,7 +11,7 @@ use Rattle.tctl.specs.Chart.{states}
 use Rattle.tctl.proofs.Drawn.{Drawn}
 use Rattle.chart.specs.Bytes.{arrowWords, chartOf}
 use Rattle.chart.specs.Shape.{Small, Slot, Shape, Passed}
-use Rattle.chart.proofs.Accepted.{WellFormed, well-formed, chart-named, chart-slots}
+use Rattle.chart.proofs.WellFormed.{WellFormed, well-formed, chart-named, chart-slots}
 use Rattle.chart.proofs.Chart.{states-of}
 
 module _ {s : List ℕ} {n m : ℕ} (p : Passed s n m) where

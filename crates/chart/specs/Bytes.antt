@@ -38,13 +38,18 @@ arrowWords s i =
 abbrev pub isNoEnd : ℕ → Bool
 isNoEnd w = eqb w 65535
 
+-- the most that a word stands for
 abbrev pub mostOf : ℕ → Most
 mostOf w = cond (isNoEnd w) noEnd (upTo w)
 
+-- the arrow that words stand for
 abbrev pub arrowOf : ArrowWords → Arrow
 arrowOf w = record { start = w .start; end = w .end; fewest = w .fewest; most = mostOf (w .most) }
 
 -- the chart that the bytes stand for
 unfoldable pub chartOf : List ℕ → Chart
 chartOf s =
-    record { labels = tabulate (stateCount s) (labelWord s); arrows = tabulate (arrowCount s) (λ i. arrowOf (arrowWords s i)) }
+    record {
+      labels = tabulate (stateCount s) (labelWord s);
+      arrows = tabulate (arrowCount s) (λ i. arrowOf (arrowWords s i));
+    }

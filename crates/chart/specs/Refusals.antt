@@ -22,6 +22,7 @@ emptySlot w = ltb (w .most) (w .fewest) || eqb (w .fewest) 65535
 unfoldable pub leftBy : List ℕ → ℕ → ℕ → Bool
 leftBy s i v = found (lowest (λ j. eqb (arrowWords s j .start) v) i)
 
+-- rows 1 to 9
 unfoldable pub chartTable : List ℕ → List Row
 chartTable s =
     let n = stateCount s in
@@ -46,5 +47,6 @@ chartTable s =
     refuse 9 (lowest (λ v. not (leftBy s m v)) n) ∷
     []
 
+-- the first of them that is met
 abbrev pub chartRefusal : List ℕ → Outcome
 chartRefusal s = first (chartTable s)

@@ -1,4 +1,4 @@
--- What the functions that read a chart ask of its bytes, and what they promise of a word's size.
+-- What functions ask of a chart's bytes and of an arrow's words, and what reading promises of a word's size.
 use mathlib.Core.Path.{_≡_}
 use mathlib.Core.Bool.{false}
 use mathlib.Core.List.{List}
@@ -15,18 +15,18 @@ pub record Small (w : ArrowWords) : Type 0 where
   pub fewest : w .fewest < 65536
   pub most : w .most < 65536
 
--- the longest that a slot's minutes are, "no end" aside
+-- the most minutes that a slot's words stand for, "no end" aside
 abbrev pub longest : ℕ
 longest = 65534
 
--- a word as a most: "no end", or not above the longest
-abbrev pub Ends : ℕ → Type 0
-Ends w = isNoEnd w ≡ false → w ≤ longest
+-- a word as a most, in range: "no end", or not above the longest
+abbrev pub InRange : ℕ → Type 0
+InRange w = isNoEnd w ≡ false → w ≤ longest
 
--- the slot of an arrow that passes check 8, for who adds up minutes
+-- what check 8 leaves of the size of a slot's words, for sums of minutes
 pub record Slot (w : ArrowWords) : Type 0 where
   pub fewest : w .fewest ≤ longest
-  pub most : Ends (w .most)
+  pub most : InRange (w .most)
 
 -- n states, and arrow i lies in the bytes
 pub record Inside (s : List ℕ) (n i : ℕ) : Type 0 where

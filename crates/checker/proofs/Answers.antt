@@ -16,7 +16,7 @@ use Rattle.outcome.specs.declared.Outcome.{Outcome}
 use Rattle.outcome.specs.Refusal.{first}
 use Rattle.outcome.proofs.First.{part-zero}
 use Rattle.chart.specs.Bytes.{stateCount, chartOf}
-use Rattle.chart.proofs.Accepted.{well-formed}
+use Rattle.chart.proofs.WellFormed.{well-formed}
 use Rattle.chart.proofs.Chart.{states-of}
 use Rattle.rule.specs.Bytes.{nodeCount}
 use Rattle.rule.specs.Formula.{formulaAt}

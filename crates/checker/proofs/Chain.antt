@@ -9,7 +9,7 @@ use lib.ListN.{length}
 use borrow.Author.Tests.{ltb-false, le-ltb}
 use Rattle.outcome.specs.declared.Outcome.{Outcome}
 use Rattle.outcome.specs.Refusal.{Row, whole, first}
-use Rattle.outcome.proofs.Place.{whole-none}
+use Rattle.outcome.proofs.Whole.{whole-none}
 use Rattle.outcome.specs.Met.{Unmet, end}
 use Rattle.outcome.proofs.First.{Numbered, alone, part-zero, part-refuses, part-passes, zero-iff}
 use Rattle.outcome.proofs.Unmet.{unmet-more, unmet-row, unmet-append-iff}

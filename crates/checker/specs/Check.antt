@@ -41,6 +41,7 @@ checkTable chart rule marks scratch =
     loopRow chart ∷
     []
 
+-- the first row of check that is met
 abbrev pub checkRefusal : List ℕ → List ℕ → List ℕ → List ℕ → Outcome
 checkRefusal chart rule marks scratch = first (checkTable chart rule marks scratch)
 

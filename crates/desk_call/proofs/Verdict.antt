@@ -9,7 +9,7 @@ use lib.ListN.{getD, List·getD-append}
 use borrow.Author.Tests.{eq-eqb, ne-eqb}
 use Rattle.outcome.specs.declared.Outcome.{Outcome}
 use Rattle.chart.specs.Bytes.{stateCount}
-use Rattle.chart.proofs.Accepted.{WellFormed, well-formed}
+use Rattle.chart.proofs.WellFormed.{WellFormed, well-formed}
 use Rattle.rule.specs.Bytes.{nodeCount}
 use Rattle.rule.specs.Shape as rule-shape
 use Rattle.rule.proofs.Accepted.{accepted}

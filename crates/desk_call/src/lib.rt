@@ -47,8 +47,8 @@ fn report(chart: &[u8], rule: &[u8], out: &mut [u8]) -> usize
     listing::list(n, k, &marks, out)
 }
 
-// Reads desk.cht and desk.rul, and prints the report. A file longer than any accepted is read for one byte more than the
-// longest, and so refused.
+// Reads desk.cht and desk.rul, and prints the report. A file longer than any accepted is read for one byte more than
+// the longest, and so refused.
 pub fn run() {
     let mut chart = [0; CHART];
     let mut rule = [0; RULE];

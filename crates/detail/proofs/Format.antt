@@ -11,7 +11,7 @@ use Rattle.truth.proofs.Truth.{neither-iff, true-or-false}
 use Rattle.outcome.specs.Refusal.{refusal, success, whole, first}
 use Rattle.outcome.specs.declared.Outcome.{Outcome}
 use Rattle.outcome.proofs.First.{first-met, first-passed, zero-iff, part-zero}
-use Rattle.outcome.proofs.Place.{whole-none}
+use Rattle.outcome.proofs.Whole.{whole-none}
 use Rattle.head.specs.Head.{headRows, Headed, version, statedLength}
 use Rattle.head.proofs.Passed.{head-iff}
 use Rattle.detail.specs.Bytes.{entryCount, MapFormat}

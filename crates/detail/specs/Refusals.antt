@@ -26,6 +26,7 @@ noMap p n =
 abbrev pub labelsDiffer : List ℕ → List ℕ → List ℕ → ℕ → Bool
 labelsDiffer d o p v = not (eqb (labelWord d v) (labelWord o (entry p v)))
 
+-- rows 20 to 23
 unfoldable pub mapTable : List ℕ → List ℕ → List ℕ → List Row
 mapTable d o p =
     let n = stateCount d in
@@ -48,5 +49,6 @@ overviewTable o = shifted 40 (acceptedTable o)
 unfoldable pub mapCheckTable : List ℕ → List ℕ → List ℕ → List Row
 mapCheckTable d o p = acceptedTable d ++ overviewTable o ++ mapTable d o p
 
+-- the first row of map check that is met
 abbrev pub mapRefusal : List ℕ → List ℕ → List ℕ → Outcome
 mapRefusal d o p = first (mapCheckTable d o p)

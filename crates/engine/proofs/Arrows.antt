@@ -17,7 +17,7 @@ use Rattle.chart.specs.declared.ArrowWords.{ArrowWords}
 use Rattle.chart.specs.Bytes.{arrowWords, mostOf, arrowOf}
 use Rattle.chart.specs.Shape.{Small, Slot}
 use Rattle.chart.proofs.Reading.{arrow-ends, slot}
-use Rattle.hints.specs.Values.{valueOf, values}
+use Rattle.hints.specs.Values.{radix, valueOf, values}
 use Rattle.hints.proofs.Values.{value-at, values-length, values-set}
 use Rattle.engine.specs.declared.Change.{Change}
 use Rattle.engine.specs.declared.Change.the-variants.{Lower, Raise}
@@ -71,13 +71,13 @@ module _ (go : List ℕ) (w : ArrowWords) (vs : List ℕ) where
   abbrev new : ℕ
   new = w .fewest + there
 
-  module _ {v : ℕ} (is : v ≡ cond (flag go (w .start)) new 131072) where
+  module _ {v : ℕ} (is : v ≡ cond (flag go (w .start)) new radix) where
     pub lower-stays : here ≤ v → Altered Lower 0 go w vs vs
     unfolding changeOf
     lower-stays h =
         stays
         (lower-elim (flag go) (arrowOf w) vs (λ ws. ws ≡ vs) (λ q. refl)
-        (λ y l. absurd (let z : ⊥ = omega (arith, is ∙ ap (λ b. cond b new 131072) y) in z)))
+        (λ y l. absurd (let z : ⊥ = omega (arith, is ∙ ap (λ b. cond b new radix) y) in z)))
 
     pub lower-moves :
         w .start < length vs → here ≤ highest → v < here →
@@ -88,9 +88,9 @@ module _ (go : List ℕ) (w : ArrowWords) (vs : List ℕ) where
         turn :
             (b : Bool) → flag go (w .start) ≡ b →
             Changed Lower (w .start + 1) vs (lower (flag go) (arrowOf w) vs) (set vs (w .start) v)
-        turn false f = absurd (let z : ⊥ = omega (arith, is ∙ ap (λ b. cond b new 131072) f) in z)
+        turn false f = absurd (let z : ⊥ = omega (arith, is ∙ ap (λ b. cond b new radix) f) in z)
         turn true f =
-            let e = is ∙ ap (λ b. cond b new 131072) f in
+            let e = is ∙ ap (λ b. cond b new radix) f in
             moves v i
             (lower-elim (flag go) (arrowOf w) vs (λ ws. ws ≡ set vs (w .start) v)
             (λ q. absurd (let z : ⊥ = omega (arith, q f) in z)) (λ y l. ap (set vs (w .start)) (sym e)))

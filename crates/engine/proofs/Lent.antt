@@ -1,23 +1,15 @@
 -- What is lent, with new numbers, and with hints or without.
 use mathlib.Core.Path.{_≡_, refl, sym, subst, _∙_}
 use mathlib.Core.List.{List}
-use mathlib.Core.Bool.{Bool}
-use Prim.Native.Nat.{ℕ, _≤_}
+use Prim.Native.Nat.{ℕ}
 use native.Mathlib.Omega.{arith}
 use lib.ListN.{length}
-use Rattle.truth.proofs.Truth.{cond-elim}
-use Rattle.tctl.specs.Chart.{Arrow, Most}
-use Rattle.model.specs.Engine.{num, Numbers, round, offer}
-use Rattle.model.specs.Weighed.{weight, weighing}
-use Rattle.model.proofs.Numbers.{numbers-set}
-use Rattle.model.proofs.Rounds.{round-keeps}
-use Rattle.model.proofs.Lower.{lower-elim}
-use Rattle.model.proofs.Raise.{offer-le, raise-elim}
+use Rattle.model.specs.Engine.{Numbers}
 use Rattle.hints.specs.Values.{values}
 use Rattle.hints.proofs.Values.{values-length, values-same}
 use Rattle.engine.specs.declared.Change.{Change}
 use Rattle.engine.specs.declared.Change.the-variants.{Lower, Raise}
-use Rattle.engine.specs.Change.{highest, top, seen, changeOf}
+use Rattle.engine.specs.Change.{highest, seen}
 use Rattle.engine.specs.Parts.{Lent}
 
 pub lent-as :

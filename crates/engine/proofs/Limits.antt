@@ -1,10 +1,8 @@
 -- No change passes the highest number, so none does in a sweep.
-use mathlib.Core.Path.{_≡_, refl, sym, subst, _∙_}
 use mathlib.Core.List.{List}
 use mathlib.Core.Bool.{Bool}
 use Prim.Native.Nat.{ℕ, _≤_}
 use native.Mathlib.Omega.{arith}
-use lib.ListN.{length}
 use Rattle.truth.proofs.Truth.{cond-elim}
 use Rattle.tctl.specs.Chart.{Arrow, Most}
 use Rattle.model.specs.Engine.{num, Numbers, round, offer}
@@ -13,12 +11,9 @@ use Rattle.model.proofs.Numbers.{numbers-set}
 use Rattle.model.proofs.Rounds.{round-keeps}
 use Rattle.model.proofs.Lower.{lower-elim}
 use Rattle.model.proofs.Raise.{offer-le, raise-elim}
-use Rattle.hints.specs.Values.{values}
-use Rattle.hints.proofs.Values.{values-length, values-same}
 use Rattle.engine.specs.declared.Change.{Change}
 use Rattle.engine.specs.declared.Change.the-variants.{Lower, Raise}
-use Rattle.engine.specs.Change.{highest, top, seen, changeOf}
-use Rattle.engine.specs.Parts.{Lent}
+use Rattle.engine.specs.Change.{highest, top, changeOf}
 
 module _ {n : ℕ} (go : ℕ → Bool) where
   -- a lowered number is less than the old one, and an offer at most the cap

@@ -1,12 +1,10 @@
 -- What an arrow does to the number of its start, for each change that the code makes.
-use mathlib.Core.Bool.{Bool, true, false, cond}
-use mathlib.Core.List.{List, [], _∷_}
-use Prim.Native.Nat.{ℕ, _+_, _-_}
+use mathlib.Core.Bool.{Bool}
+use mathlib.Core.List.{List}
+use Prim.Native.Nat.{ℕ, _-_}
 use Rattle.tctl.specs.Chart.{Arrow}
-use Rattle.tctl.specs.Tabulate.{tabulate}
-use Rattle.model.specs.Engine.{rounds, lower, raise}
+use Rattle.model.specs.Engine.{lower, raise}
 use Rattle.model.specs.Weighed.{weighing}
-use Rattle.chart.specs.Bytes.{arrowWords, arrowOf}
 use Rattle.hints.specs.Values.{values}
 use Rattle.engine.specs.declared.Change.{Change}
 use Rattle.engine.specs.declared.Change.the-variants.{Lower, Raise}

@@ -9,8 +9,8 @@ ghost use Rattle.model.specs.Engine.{offer, lowered, raised};
 ghost use Rattle.model.specs.Marks.{flag};
 ghost use Rattle.model.specs.Weighed.{weight, weighed};
 ghost use Rattle.chart.specs.Bytes.{arrowWords, mostOf, chartOf};
-ghost use Rattle.chart.specs.Shape.{Ends};
-ghost use Rattle.hints.specs.Values.{values};
+ghost use Rattle.chart.specs.Shape.{InRange};
+ghost use Rattle.hints.specs.Values.{radix, values};
 ghost use Rattle.engine.specs.Change.{highest, top, seen};
 ghost use Rattle.engine.specs.Sweep.{turned};
 ghost use Rattle.engine.specs.Parts.{Lent, Placed, Altered, Swept, Leapt};
@@ -31,8 +31,8 @@ enum Change {
 
 // What an arrow with the word most weighs, as such a word.
 fn weight_of(ticks: bool, most: u32) -> u32
-    requires { ⌜ Ends most ⌝ }
-    ensures { λ r. ⌜ (mostOf r ≡ weight ticks (mostOf most)) × Ends r ⌝ }
+    requires { ⌜ InRange most ⌝ }
+    ensures { λ r. ⌜ (mostOf r ≡ weight ticks (mostOf most)) × InRange r ⌝ }
 {
     if ticks {
         if most == 0 {
@@ -55,7 +55,7 @@ fn lesser(a: u32, b: u32) -> u32
 
 // What an arrow with the word most offers its start, from its end's number.
 fn offered(climb: Climb, most: u32, there: u32) -> u32
-    requires { ⌜ Ends most × (there ≤ highest) ⌝ }
+    requires { ⌜ InRange most × (there ≤ highest) ⌝ }
     ensures { λ r. ⌜ r ≡ offer (climb .cap) (weight (climb .ticks) (mostOf most)) there ⌝ }
 {
     let w = weight_of(climb.ticks, most);
@@ -78,12 +78,12 @@ fn reached(climb: Climb, v: u32) -> u32
 // What counts at a state with that mark for a number to be lowered: v, and past every number without the mark 1. An
 // answer instead of an early end, since whether a state is gone through is a test that no processor foretells.
 fn barred(mark: u8, v: u32) -> u32
-    ensures { λ r. ⌜ r ≡ cond (eqb mark 1) v 131072 ⌝ }
+    ensures { λ r. ⌜ r ≡ cond (eqb mark 1) v radix ⌝ }
 {
     if mark == 1 {
         return v;
     }
-    131072
+    hints::RADIX
 }
 
 // And for a number to be raised from one there: v, and 0 without the mark 1 or from the number 0.
@@ -205,7 +205,7 @@ fn sweep(
     last
 }
 
-// The least fixpoint: numbers are lowered, on and back, until no arrow lowers one.
+// The least minutes: numbers are lowered, on and back, until no arrow lowers one.
 pub fn least(chart: &[u8], n: usize, m: usize, go: &[u8], numbers: &mut [u32])
     requires { ⌜ Lent (now chart) n m (now go) (now numbers) ⌝ }
     ensures { λ _. ⌜ now (numbers .exit) ≡

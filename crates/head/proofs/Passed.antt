@@ -9,7 +9,7 @@ use lib.Dec.{ltb}
 use borrow.Author.Tests.{ltb-false, le-ltb}
 use Rattle.outcome.specs.declared.Outcome.{Outcome}
 use Rattle.outcome.specs.Refusal.{whole, first}
-use Rattle.outcome.proofs.Place.{whole-none, none-equal, equal-none}
+use Rattle.outcome.proofs.Whole.{whole-none, none-equal, equal-none}
 use Rattle.outcome.specs.Met.{Unmet, end}
 use Rattle.outcome.proofs.First.{Numbered, zero-iff, part-zero}
 use Rattle.outcome.proofs.Unmet.{unmet-more, unmet-row}

@@ -10,29 +10,31 @@ ghost use Rattle.model.specs.Marks.{flag};
 ghost use Rattle.chart.specs.Bytes.{chartOf};
 ghost use Rattle.chart.specs.Shape.{Passed};
 ghost use Rattle.hints.specs.Circle.{Circles};
-ghost use Rattle.hints.specs.Values.{valueOf, values};
+ghost use Rattle.hints.specs.Values.{radix, valueOf, values};
+
+pub const RADIX: u32 = 131072;
 
 // The value of the number x.
 pub fn value(x: u32) -> u32
     ensures { λ r. ⌜ r ≡ valueOf x ⌝ }
 {
-    x % 131072
+    x % RADIX
 }
 
 // The value v with the hint of arrow i.
 pub fn hinted(v: u32, i: usize) -> u32
-    requires { ⌜ (v < 131072) × (i < 2048) ⌝ }
+    requires { ⌜ (v < radix) × (i < 2048) ⌝ }
     ensures { λ r. ⌜ valueOf r ≡ v ⌝ }
 {
-    (i as u32 + 1) * 131072 + v
+    (i as u32 + 1) * RADIX + v
 }
 
 // The value v with the hint of the number x.
 pub fn revalued(x: u32, v: u32) -> u32
-    requires { ⌜ v < 131072 ⌝ }
+    requires { ⌜ v < radix ⌝ }
     ensures { λ r. ⌜ valueOf r ≡ v ⌝ }
 {
-    x - x % 131072 + v
+    x - x % RADIX + v
 }
 
 // The hints are taken off.
@@ -48,10 +50,10 @@ pub fn bare(numbers: &mut [u32])
 
 // The hint of the number x: an arrow's number, or one that no arrow has.
 fn hint_of(x: u32) -> usize {
-    if x < 131072 {
+    if x < RADIX {
         return 2048;
     }
-    (x / 131072 - 1) as usize
+    (x / RADIX - 1) as usize
 }
 
 // The state that n arrows lead to, one after the other as the hints say, or fewer where there is no hint.

@@ -13,7 +13,6 @@ use Rattle.truth.proofs.Truth.{and-iff, one-true}
 use Rattle.tctl.specs.Tabulate.{tabulate}
 use Rattle.tctl.specs.Chart.{states}
 use Rattle.tctl.specs.Holds.{Holds}
-use Rattle.tctl.specs.Accepted.{Accepted}
 use Rattle.tctl.proofs.Tabulate.{mem-tabulate}
 use Rattle.model.specs.Every.{every}
 use Rattle.model.specs.Engine.{round, rounds, lower, raise, least, greatest}

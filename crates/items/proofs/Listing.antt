@@ -1,7 +1,6 @@
 -- Short and the rule of item 4 are, byte for byte, those of 01's listing, and so are the marks.
 use mathlib.Core.Path.{_≡_, refl}
-use mathlib.Core.List.{List, [], _∷_}
-use Prim.Native.Nat.{ℕ}
+use mathlib.Core.List.{[], _∷_}
 use Rattle.tctl.specs.Tabulate.{tabulate}
 use Rattle.model.specs.Engine.{round, rounds, raise, greatest}
 use Rattle.model.specs.Decide.{waits, allRow, row}

@@ -1,14 +1,9 @@
 -- The small inputs are answered with the number and the place that are listed: one computed test over each list.
 use mathlib.Core.Path.{_≡_, refl}
-use mathlib.Core.Bool.{Bool, true, _&&_}
-use mathlib.Core.List.{List}
-use Prim.Native.Nat.{ℕ}
-use lib.ListN.{replicate}
-use lib.Dec.{eqb}
+use mathlib.Core.Bool.{true}
 use Rattle.tctl.specs.Tabulate.{tabulate}
 use Rattle.model.specs.Every.{every}
 use Rattle.model.specs.ZeroLoop.{leads}
-use Rattle.outcome.specs.declared.Outcome.{Outcome}
 use Rattle.outcome.specs.Refusal.{lowest, first}
 use Rattle.chart.specs.Bytes.{arrowWords, chartOf}
 use Rattle.chart.specs.Refusals.{leftBy, chartTable}
@@ -17,8 +12,8 @@ use Rattle.rule.specs.Form.{formOf}
 use Rattle.rule.specs.Refusals.{wrongKind, wrongA, malformed, notLower, usesIn, uses, ruleTable, ruleRefusal}
 use Rattle.loops.specs.Refusal.{loopRow, acceptedTable, acceptedRefusal}
 use Rattle.detail.specs.Covered.{covered}
-use Rattle.detail.specs.Refusals.{noMap, mapTable, mapCheckTable, mapRefusal}
-use Rattle.checker.specs.Check.{checkTable, checkRefusal}
+use Rattle.detail.specs.Refusals.{noMap, mapTable, mapCheckTable}
+use Rattle.checker.specs.Check.{checkTable}
 use Rattle.items.specs.SmallInputs.{charts, rules, maps, checks, asListed, mapAsListed, checkAsListed}
 
 pub charts-refused : every (asListed acceptedRefusal) charts ≡ true

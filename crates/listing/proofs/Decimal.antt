@@ -36,7 +36,7 @@ decimal-more {x} e h =
     rw (e, le-ltb x 10 h)
     (ap (λ (s : List ℕ). s ++ (48 + x % 10) ∷ []) (enough x (suc (x / 10)) (x / 10) (omega arith) (omega arith)))
 
--- a number below 10 to the power d has at most d digits
+-- a number below 10 to the power d + 1 has at most d + 1 digits
 pub decimal-size : (d x : ℕ) → x < 10 ^ suc d → length (decimal x) ≤ suc d
 decimal-size zero x h = rw (decimal-last {x = x} refl (omega arith)) (omega arith)
 decimal-size (suc d) x h = turn (decimal-size d (x / 10)) (ltb x 10) refl

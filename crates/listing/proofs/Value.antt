@@ -9,15 +9,15 @@ use borrow.Author.Tests.{ltb-true, ltb-false}
 use Rattle.listing.specs.Text.{digitsBy, decimal}
 
 -- the number that digits stand for, where those before them stand for `high`
-abbrev pub valueOf : ℕ → List ℕ → ℕ
-valueOf high [] = high
-valueOf high (d ∷ s) = valueOf (high * 10 + (d - 48)) s
+abbrev pub readAs : ℕ → List ℕ → ℕ
+readAs high [] = high
+readAs high (d ∷ s) = readAs (high * 10 + (d - 48)) s
 
-value-append : (high : ℕ) (s : List ℕ) (d : ℕ) → valueOf high (s ++ d ∷ []) ≡ valueOf high s * 10 + (d - 48)
+value-append : (high : ℕ) (s : List ℕ) (d : ℕ) → readAs high (s ++ d ∷ []) ≡ readAs high s * 10 + (d - 48)
 value-append high [] d = refl
 value-append high (x ∷ s) d = value-append (high * 10 + (x - 48)) s d
 
-value-by : (most x : ℕ) → x < most → valueOf 0 (digitsBy most x) ≡ x
+value-by : (most x : ℕ) → x < most → readAs 0 (digitsBy most x) ≡ x
 unfolding digitsBy
 value-by zero x h = absurd (let z : ⊥ = omega arith in z)
 value-by (suc most) x h =
@@ -25,11 +25,11 @@ value-by (suc most) x h =
     turn (value-by most (x / 10)) (ltb x 10) refl
   where
     turn :
-        (x / 10 < most → valueOf 0 (digitsBy most (x / 10)) ≡ x / 10) → (c : Bool) → ltb x 10 ≡ c →
-        valueOf 0 (cond {A = List ℕ} c [] (digitsBy most (x / 10))) * 10 + (48 + x % 10 - 48) ≡ x
+        (x / 10 < most → readAs 0 (digitsBy most (x / 10)) ≡ x / 10) → (c : Bool) → ltb x 10 ≡ c →
+        readAs 0 (cond {A = List ℕ} c [] (digitsBy most (x / 10))) * 10 + (48 + x % 10 - 48) ≡ x
     turn ih true e = let l = ltb-true x 10 e in omega arith
     turn ih false e = let l = ltb-false x 10 e in let v = ih (omega arith) in omega (arith, v)
 
-pub decimal-value : (x : ℕ) → valueOf 0 (decimal x) ≡ x
+pub decimal-value : (x : ℕ) → readAs 0 (decimal x) ≡ x
 unfolding decimal
 decimal-value x = value-by (suc x) x (omega arith)

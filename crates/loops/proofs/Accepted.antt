@@ -10,7 +10,7 @@ use Rattle.truth.proofs.Truth.{no-test}
 use Rattle.tctl.specs.Run.{Run}
 use Rattle.tctl.specs.Accepted.{Accepted, OnZeroLoop}
 use Rattle.tctl.proofs.Drawn.{Drawn}
-use Rattle.tctl.proofs.Run.{Passes}
+use Rattle.tctl.proofs.Passes.{Passes}
 use Rattle.tctl.proofs.Passing.{passes}
 use Rattle.model.specs.ZeroLoop.{onZeroLoop}
 use Rattle.model.proofs.ZeroLoop.{on-zero-loop-iff}
@@ -23,7 +23,7 @@ use Rattle.outcome.proofs.Lowest.{none-below, lowest-none}
 use Rattle.chart.specs.Bytes.{stateCount, arrowCount, chartOf}
 use Rattle.chart.specs.Shape.{Shape, Passed}
 use Rattle.chart.specs.Refusals.{chartTable, chartRefusal}
-use Rattle.chart.proofs.Accepted.{WellFormed, well-formed, chart-left}
+use Rattle.chart.proofs.WellFormed.{WellFormed, well-formed, chart-left}
 use Rattle.chart.proofs.Chart.{states-of}
 use Rattle.chart.proofs.Converse.{formed-unmet, accepted-formed}
 use Rattle.chart.proofs.Reading.{drawn}

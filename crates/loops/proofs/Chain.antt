@@ -9,7 +9,7 @@ use Rattle.outcome.proofs.First.{part-zero, part-refuses, part-passes}
 use Rattle.chart.specs.Bytes.{stateCount, arrowCount}
 use Rattle.chart.specs.Refusals.{chartTable, chartRefusal}
 use Rattle.chart.specs.Shape.{Passed}
-use Rattle.chart.proofs.Accepted.{well-formed}
+use Rattle.chart.proofs.WellFormed.{well-formed}
 use Rattle.loops.specs.Refusal.{loopRow, acceptedTable, acceptedRefusal}
 
 module _ (s : List ℕ) {r : Outcome} (e : r ≡ chartRefusal s) where

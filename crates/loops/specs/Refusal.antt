@@ -15,5 +15,6 @@ loopRow s = refuse 19 (lowest (onZeroLoop (chartOf s)) (stateCount s))
 unfoldable pub acceptedTable : List ℕ → List Row
 acceptedTable s = chartTable s ++ loopRow s ∷ []
 
+-- the first of them that is met
 abbrev pub acceptedRefusal : List ℕ → Outcome
 acceptedRefusal s = first (acceptedTable s)

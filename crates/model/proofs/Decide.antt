@@ -18,6 +18,8 @@ use Rattle.model.specs.Decide.{row, holds}
 use Rattle.model.proofs.Row.{row-iff}
 use Rattle.model.proofs.Untils.{some-until, all-until}
 
+-- By induction on the formula. An until by its row, over its operands' answers: a run stays in the chart's states, where
+-- those are right.
 pub holds-iff : (G : Chart) → Accepted G → (f : Formula) (s : ℕ) → s < states G → (holds G f s ≡ true) ↔ Holds G f s
 unfolding row
 holds-iff G acc always s l = row-iff (states G) (λ s. true) s l (λ e. tt, λ h. refl)

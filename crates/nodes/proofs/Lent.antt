@@ -19,7 +19,7 @@ use Rattle.chart.proofs.Reading.{drawn, has-states}
 use Rattle.rule.specs.declared.NodeWords.{NodeWords}
 use Rattle.model.specs.Weighed.{weighed}
 use Rattle.engine.specs.Change.{highest}
-use Rattle.nodes.specs.Parts.{Lower}
+use Rattle.nodes.specs.Parts.{OperandsBelow}
 use Rattle.nodes.specs.Untils.{sureStart}
 
 -- the arrows join states, and so they do if they weigh ticks
@@ -58,6 +58,6 @@ sure-numbered arrows n p q c = ends-numbered c (λ s. neg (ask (sureRow arrows n
 
 -- the rows of lower nodes lie in a table that holds row t
 pub rows-inside :
-    {t : ℕ} {w : NodeWords} (n : ℕ) {count size : ℕ} → Lower t w → count ≡ n → t * n + n ≤ size →
+    {t : ℕ} {w : NodeWords} (n : ℕ) {count size : ℕ} → OperandsBelow t w → count ≡ n → t * n + n ≤ size →
     (count ≡ n) × (w .a * n + n ≤ size) × (w .b * n + n ≤ size)
 rows-inside n low e h = (e, omega (arith, row-below n (low .left)), omega (arith, row-below n (low .right)))

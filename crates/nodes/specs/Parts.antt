@@ -19,7 +19,7 @@ pub record Lent (chart : List ℕ) (n m t : ℕ) (marks numbers : List ℕ) : Ty
   pub size : length numbers ≡ n
 
 -- two operands below node t
-pub record Lower (t : ℕ) (w : NodeWords) : Type 0 where
+pub record OperandsBelow (t : ℕ) (w : NodeWords) : Type 0 where
   pub left : w .a < t
   pub right : w .b < t
 

@@ -16,7 +16,7 @@ ghost use Rattle.model.specs.Weighed.{weighed};
 ghost use Rattle.engine.specs.Change.{highest};
 ghost use Rattle.fill.specs.Fill.{baseOf};
 ghost use Rattle.fill.specs.Parts.{Wrote};
-ghost use Rattle.nodes.specs.Parts.{Lent, Lower, Node, Operands};
+ghost use Rattle.nodes.specs.Parts.{Lent, OperandsBelow, Node, Operands};
 ghost use Rattle.nodes.specs.Untils.{through, from, untilRow, sureStart};
 use fill::Base;
 use fill::Mix;
@@ -41,7 +41,7 @@ fn climb(
     marks: &mut [u8],
     numbers: &mut [u32],
 )
-    requires { ⌜ Lent (now chart) n m t (now marks) (now numbers) × Lower t node ⌝ }
+    requires { ⌜ Lent (now chart) n m t (now marks) (now numbers) × OperandsBelow t node ⌝ }
     requires { ⌜ (way .cap ≤ highest) × ((p q : Bool) → baseOf (way .base) p q ≤ highest) ⌝ }
     ensures { λ _. ⌜ Wrote n t (through (way .mix) n (now (marks .entry)) node)
         (now (marks .entry)) (now (marks .exit))
@@ -70,7 +70,7 @@ fn descend(
     numbers: &mut [u32],
 )
     requires { ⌜ Passed (now chart) n m × (t * n + n ≤ length (now marks)) ⌝ }
-    requires { ⌜ Lower t node × Numbers n highest (now numbers) ⌝ }
+    requires { ⌜ OperandsBelow t node × Numbers n highest (now numbers) ⌝ }
     ensures { λ _. ⌜ Wrote n t (through mix n (now (marks .entry)) node) (now (marks .entry)) (now (marks .exit))
         × ((cap : ℕ) (end : ℕ → Bool) → now (numbers .entry) ≡ tabulate n (λ s. cond (end s) 0 cap) →
         now (numbers .exit) ≡
@@ -92,7 +92,7 @@ fn some_at_most(
     marks: &mut [u8],
     numbers: &mut [u32],
 )
-    requires { ⌜ Lent (now chart) n m t (now marks) (now numbers) × Lower t node × (node .c < 65536) ⌝ }
+    requires { ⌜ Lent (now chart) n m t (now marks) (now numbers) × OperandsBelow t node × (node .c < 65536) ⌝ }
     ensures { λ _. ⌜ Wrote n t
         (ask (someRow (chartOf (now (chart .entry)) .arrows) n (atMost (node .c))
         (mark n (now (marks .entry)) (node .a)) (mark n (now (marks .entry)) (node .b))))
@@ -114,7 +114,7 @@ fn some_at_least(
     marks: &mut [u8],
     numbers: &mut [u32],
 )
-    requires { ⌜ Lent (now chart) n m t (now marks) (now numbers) × Lower t node × (node .c < 65536) ⌝ }
+    requires { ⌜ Lent (now chart) n m t (now marks) (now numbers) × OperandsBelow t node × (node .c < 65536) ⌝ }
     ensures { λ _. ⌜ Wrote n t
         (ask (someRow (chartOf (now (chart .entry)) .arrows) n (atLeast (node .c))
         (mark n (now (marks .entry)) (node .a)) (mark n (now (marks .entry)) (node .b))))
@@ -143,7 +143,7 @@ fn unhindered(
     marks: &mut [u8],
     numbers: &mut [u32],
 )
-    requires { ⌜ Lent (now chart) n m t (now marks) (now numbers) × Lower t node × (suc limit ≤ highest) ⌝ }
+    requires { ⌜ Lent (now chart) n m t (now marks) (now numbers) × OperandsBelow t node × (suc limit ≤ highest) ⌝ }
     ensures { λ _. ⌜ Wrote n t
         (λ s. leb (num (waits (weighed ticks (chartOf (now (chart .entry)) .arrows)) n limit
         (mark n (now (marks .entry)) (node .a)) (mark n (now (marks .entry)) (node .b))) s) limit)
@@ -171,7 +171,7 @@ fn sure_start(
     marks: &mut [u8],
     numbers: &mut [u32],
 )
-    requires { ⌜ Lent (now chart) n m t (now marks) (now numbers) × Lower t node ⌝ }
+    requires { ⌜ Lent (now chart) n m t (now marks) (now numbers) × OperandsBelow t node ⌝ }
     ensures { λ _. ⌜ Wrote n t
         (ask (plainRow (chartOf (now (chart .entry)) .arrows) n
         (mark n (now (marks .entry)) (node .a)) (mark n (now (marks .entry)) (node .b))))
@@ -197,7 +197,7 @@ fn all_at_least(
     marks: &mut [u8],
     numbers: &mut [u32],
 )
-    requires { ⌜ Lent (now chart) n m t (now marks) (now numbers) × Lower t node ⌝ }
+    requires { ⌜ Lent (now chart) n m t (now marks) (now numbers) × OperandsBelow t node ⌝ }
     requires { ⌜ (node .c < 65536) × (0 < node .c) ⌝ }
     ensures { λ _. ⌜ Wrote n t
         (ask (allRow (chartOf (now (chart .entry)) .arrows) n (atLeast (node .c))
@@ -219,7 +219,7 @@ fn until(
     marks: &mut [u8],
     numbers: &mut [u32],
 )
-    requires { ⌜ Lent (now chart) n m t (now marks) (now numbers) × Lower t node × (node .c < 65536) ⌝ }
+    requires { ⌜ Lent (now chart) n m t (now marks) (now numbers) × OperandsBelow t node × (node .c < 65536) ⌝ }
     ensures { λ _. ⌜ Wrote n t
         (ask (untilRow (node .operation) (chartOf (now (chart .entry)) .arrows) n (boundOf (node .kind) (node .c))
         (mark n (now (marks .entry)) (node .a)) (mark n (now (marks .entry)) (node .b))))

@@ -1,4 +1,4 @@
-pub mod Place
+pub mod Whole
 pub mod Found
 pub mod Lowest
 pub mod First

@@ -11,6 +11,7 @@ use Rattle.outcome.specs.declared.Outcome.{Outcome}
 abbrev pub success : Outcome
 success = record { number = 0; place = 0 }
 
+-- "Refused with number and place"
 abbrev pub refusal : ℕ → ℕ → Outcome
 refusal n p = record { number = n; place = p }
 

@@ -17,7 +17,8 @@ use Rattle.nodes.specs.Parts.{Lent, Node, Operands}
 use Rattle.settle.specs.Parts.{Settled}
 use Rattle.settle.proofs.Tree.{Below, below-none, below-left, below-both, operands, settled}
 
-pub record Begun (chart : List ℕ) (n m : ℕ) (rule : List ℕ) (t : ℕ) (w : NodeWords) (marks numbers : List ℕ) : Type 0 where
+pub record Begun (chart : List ℕ) (n m : ℕ) (rule : List ℕ) (t : ℕ) (w : NodeWords) (marks numbers : List ℕ) :
+    Type 0 where
   pub lent : Lent chart n m t marks numbers
   pub node : read.Node rule t w
 
@@ -47,7 +48,8 @@ module _ {chart : List ℕ} {n m : ℕ} {rule : List ℕ} {t : ℕ} {w : NodeWor
   pub none-below : w .operation < 2 → Below chart n rule t marks marks
   none-below h = below-none (omega (arith, operation-is)) marks
 
-  pub one-below : {mid : List ℕ} → w .operation ≡ 2 → Settled chart n rule (w .a) marks mid → Below chart n rule t marks mid
+  pub one-below :
+      {mid : List ℕ} → w .operation ≡ 2 → Settled chart n rule (w .a) marks mid → Below chart n rule t marks mid
   one-below {mid} h x =
       below-left passed (b .node .low) (omega (arith, operation-is))
       (subst (λ v. Settled chart n rule (v .a) marks mid) (b .node .read) x)
@@ -64,7 +66,8 @@ module _ {chart : List ℕ} {n m : ℕ} {rule : List ℕ} {t : ℕ} {w : NodeWor
 
   module _ {mid : List ℕ} (x : Below chart n rule t marks mid) where
     pub own-asks :
-        {vs : List ℕ} → length vs ≡ length numbers → (Lent chart n m t mid vs × Node rule t) × Operands chart n rule t mid
+        {vs : List ℕ} → length vs ≡ length numbers →
+        (Lent chart n m t mid vs × Node rule t) × Operands chart n rule t mid
     own-asks f = (
       (
         record {

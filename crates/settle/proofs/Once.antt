@@ -108,9 +108,11 @@ module _ {s : List ℕ} (acc : Accepted s) where
       let own = sum-one t g k l in
       let left = sum-cond (leb 2 (w .operation)) (visits s (w .a)) g k in
       let right = sum-cond (leb 3 (w .operation)) (visits s (w .b)) g k in
-      let a = operand-adds (leb 2 (w .operation)) (eqb (w .a) u) (visits s (w .a) u) (sum (λ v. visits s (w .a) v * g v) k)
+      let a = operand-adds (leb 2 (w .operation)) (eqb (w .a) u) (visits s (w .a) u)
+      (sum (λ v. visits s (w .a) v * g v) k)
       (λ e. let i = lower-a acc t l (leb-true 2 _ e) in flow d (w .a) u (omega arith) (omega arith)) in
-      let b = operand-adds (leb 3 (w .operation)) (eqb (w .b) u) (visits s (w .b) u) (sum (λ v. visits s (w .b) v * g v) k)
+      let b = operand-adds (leb 3 (w .operation)) (eqb (w .b) u) (visits s (w .b) u)
+      (sum (λ v. visits s (w .b) v * g v) k)
       (λ e. let i = lower-b acc t l (leb-true 3 _ e) in flow d (w .b) u (omega arith) (omega arith)) in
       omega (arith, visits-at acc t u l, terms, parts, first, own, left, right, a, b, named-at u t)
 

@@ -11,7 +11,8 @@ use Rattle.tctl.specs.Run.{Run, Step, total, moment}
 use Rattle.tctl.specs.Formula.{atLeast}
 use Rattle.tctl.proofs.Drawn.{Drawn, step-below}
 use Rattle.tctl.proofs.Path.{Path, stop, step, minutes}
-use Rattle.tctl.proofs.Run.{Passes, Lively, first, after, moment-after, passes-rest}
+use Rattle.tctl.proofs.Run.{first, after, moment-after}
+use Rattle.tctl.proofs.Passes.{Passes, Lively, passes-rest}
 use Rattle.tctl.proofs.Until.{Until, later, until-weaken}
 use Rattle.tctl.proofs.Unmet.{Unmet, unmet-here, unmet-ahead, unmet-weaken}
 

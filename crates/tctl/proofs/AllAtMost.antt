@@ -9,7 +9,8 @@ use Rattle.tctl.specs.Run.{Run, Step, total, moment}
 use Rattle.tctl.specs.Formula.{Bound, atMost}
 use Rattle.tctl.proofs.Drawn.{Drawn, step-below}
 use Rattle.tctl.proofs.Path.{Path, stop, step, minutes, Any}
-use Rattle.tctl.proofs.Run.{Passes, Lively, first, after, moment-after}
+use Rattle.tctl.proofs.Run.{first, after, moment-after}
+use Rattle.tctl.proofs.Passes.{Passes, Lively}
 use Rattle.tctl.proofs.Until.{Until, now, later}
 use Rattle.tctl.proofs.Unmet.{Unmet, unmet-here, unmet-ahead}
 

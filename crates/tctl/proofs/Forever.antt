@@ -5,7 +5,8 @@ use native.Mathlib.Omega.{arith}
 use Rattle.tctl.specs.Chart.{Chart}
 use Rattle.tctl.specs.Run.{Run, Step, total}
 use Rattle.tctl.proofs.Path.{Path, stop, step, minutes, step-cast}
-use Rattle.tctl.proofs.Run.{Passes, total-suc, paces, unroll}
+use Rattle.tctl.proofs.Run.{total-suc, paces, unroll}
+use Rattle.tctl.proofs.Passes.{Passes}
 
 -- a loop: a step from u, and the way back to u
 module _ {G : Chart} {go : ℕ → Type 0} {u d t : ℕ} (g : go u) (x : Step G u d t) (back : Path G go (λ y. y ≡ u) t) where

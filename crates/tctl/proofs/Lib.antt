@@ -2,6 +2,7 @@ pub mod Tabulate
 pub mod Drawn
 pub mod Path
 pub mod Run
+pub mod Passes
 pub mod Prefix
 pub mod Pigeonhole
 pub mod Loop

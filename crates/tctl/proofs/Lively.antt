@@ -1,4 +1,4 @@
--- Every state of an accepted chart has a run.
+-- Every state of an accepted chart has a run whose moments pass every number.
 use mathlib.Core.Path.{refl, sym}
 use Prim.Native.Nat.{ℕ, _<_}
 use Rattle.tctl.specs.Chart.{Chart, states}
@@ -6,7 +6,8 @@ use Rattle.tctl.specs.Run.{Step}
 use Rattle.tctl.specs.Accepted.{Accepted}
 use Rattle.tctl.proofs.Drawn.{accepted-drawn, quickest}
 use Rattle.tctl.proofs.Path.{step-cast}
-use Rattle.tctl.proofs.Run.{Lively, unroll}
+use Rattle.tctl.proofs.Run.{unroll}
+use Rattle.tctl.proofs.Passes.{Lively}
 use Rattle.tctl.proofs.Passing.{passes}
 
 -- every state is left by an arrow, and the next state again

@@ -9,7 +9,8 @@ use Rattle.tctl.specs.Run.{Run, total, moment}
 use Rattle.tctl.specs.Accepted.{Accepted}
 use Rattle.tctl.proofs.Drawn.{Drawn, accepted-drawn, step-below}
 use Rattle.tctl.proofs.Path.{Path, steps, minutes, Any}
-use Rattle.tctl.proofs.Run.{Passes, first, after, moment-after}
+use Rattle.tctl.proofs.Run.{first, after, moment-after}
+use Rattle.tctl.proofs.Passes.{Passes}
 use Rattle.tctl.proofs.Prefix.{prefix}
 use Rattle.tctl.proofs.Loop.{looped}
 use Rattle.tctl.proofs.Instant.{instant}

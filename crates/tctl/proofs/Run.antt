@@ -7,15 +7,6 @@ use Rattle.tctl.specs.Run.{Run, Step, total, moment}
 use Rattle.tctl.proofs.Drawn.{Drawn, step-below}
 use Rattle.tctl.proofs.Path.{step-cast}
 
--- the moments of a run with these durations pass every number: said of durations, so that it can be shown before there
--- is a run
-abbrev pub Passes : (ℕ → ℕ) → Type 0
-Passes d = (c : ℕ) → (i : ℕ) × c < total d i
-
--- every state has a run whose moments pass every number
-abbrev pub Lively : Chart → Type 0
-Lively G = (s : ℕ) → s < states G → (r : Run G s) × Passes (r .duration)
-
 -- ── Durations and their sums ──
 
 pub total-suc : (f : ℕ → ℕ) (i : ℕ) → total f (suc i) ≡ f 0 + total (λ j. f (suc j)) i
@@ -24,22 +15,9 @@ total-suc f zero = omega arith
 total-suc f (suc i) = omega (arith, total-suc f i)
 
 -- a sequence with a in front
-abbrev front : ℕ → (ℕ → ℕ) → ℕ → ℕ
+abbrev pub front : ℕ → (ℕ → ℕ) → ℕ → ℕ
 front a f zero = a
 front a f (suc i) = f i
-
-pub passes-front : (a : ℕ) (f : ℕ → ℕ) → Passes f → Passes (front a f)
-passes-front a f h c =
-    let p = h c in
-    (suc (p .0), omega (arith, p .1, total-suc (front a f) (p .0)))
-
-pub passes-rest : (f : ℕ → ℕ) → Passes f → Passes (λ i. f (suc i))
-unfolding total
-passes-rest f h c = let p = h (c + f 0) in turn (p .0) (p .1)
-  where
-    turn : (i : ℕ) → c + f 0 < total f i → (j : ℕ) × c < total (λ i. f (suc i)) j
-    turn zero l = absurd (let z : ⊥ = omega arith in z)
-    turn (suc i) l = (i, omega (arith, total-suc f i))
 
 module _ {G : Chart} where
   -- ── A step and then a run ──

@@ -9,7 +9,8 @@ use Rattle.tctl.specs.Formula.{Bound, Meets}
 use Rattle.tctl.specs.Holds.{Met}
 use Rattle.tctl.proofs.Drawn.{Drawn, step-below}
 use Rattle.tctl.proofs.Path.{Path, stop, step, minutes}
-use Rattle.tctl.proofs.Run.{Passes, Lively, ahead, passes-front}
+use Rattle.tctl.proofs.Run.{ahead}
+use Rattle.tctl.proofs.Passes.{Passes, Lively, passes-front}
 use Rattle.tctl.proofs.Prefix.{prefix}
 use Rattle.tctl.proofs.Until.{Until, now, later, met-iff-until}
 
@@ -27,6 +28,7 @@ module _ {G : Chart} (dr : Drawn G) (live : Lively G) {P Q : ℕ → Type 0} {b 
       let r = run-of-path (k + d) (step-below dr x) p (subst (Meets b) e m) in
       (ahead x (r .0), passes-front d (r .0 .duration) (r .1), later g (r .2))
 
+  -- The first steps of such a run, up to the position, are the path. A path, and any run after it, is such a run.
   pub some-iff-path :
       (s : ℕ) → s < states G →
       ((r : Run G s) × Passes (r .duration) × Met G P Q b s r) ↔ ((p : Path G P Q s) × Meets b (minutes p))

@@ -5,7 +5,8 @@ use Prim.Native.Nat.{ℕ, _+_}
 use Rattle.tctl.specs.Chart.{Chart}
 use Rattle.tctl.specs.Run.{Run, Step}
 use Rattle.tctl.specs.Formula.{Bound, Meets}
-use Rattle.tctl.proofs.Run.{Passes, ahead, passes-front}
+use Rattle.tctl.proofs.Run.{ahead}
+use Rattle.tctl.proofs.Passes.{Passes, passes-front}
 use Rattle.tctl.proofs.Until.{Until, now-or-later, until-weaken}
 
 -- a run from s whose moments pass every number, along which the until is not met if s has the moment k

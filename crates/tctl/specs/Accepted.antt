@@ -7,7 +7,9 @@ use Rattle.tctl.specs.Chart.{Chart, Arrow, Within, states}
 -- arrows of the chart, one after the other from s to t, one at least, "whose fewest are all 0"
 pub data Instant (G : Chart) (t : ℕ) : ℕ → Type 0 where
   last : {s : ℕ} (a : Arrow) → List·Memᴰ a (G .arrows) → a .start ≡ s → a .fewest ≡ 0 → a .end ≡ t → Instant G t s
-  next : {s : ℕ} (a : Arrow) → List·Memᴰ a (G .arrows) → a .start ≡ s → a .fewest ≡ 0 → Instant G t (a .end) → Instant G t s
+  next :
+      {s : ℕ} (a : Arrow) → List·Memᴰ a (G .arrows) → a .start ≡ s → a .fewest ≡ 0 → Instant G t (a .end) →
+      Instant G t s
 
 -- s is on "a loop of arrows whose fewest are all 0"
 abbrev pub OnZeroLoop : Chart → ℕ → Type 0
@@ -18,7 +20,7 @@ pub record Accepted (G : Chart) : Type 0 where
   -- 7: "arrow names a state n or above"
   pub starts : (a : Arrow) → List·Memᴰ a (G .arrows) → a .start < states G
   pub ends : (a : Arrow) → List·Memᴰ a (G .arrows) → a .end < states G
-  -- 8: "fewest above most", so that no slot is empty; "or fewest 65,535" is a limit of the bytes, and no more is asked here
+  -- 8: "fewest above most", so that no slot is empty; "or fewest 65,535" is a limit of the bytes
   pub slots : (a : Arrow) → List·Memᴰ a (G .arrows) → Within (a .fewest) (a .most)
   -- 9: "state without an outgoing arrow"
   pub leaves : (s : ℕ) → s < states G → (a : Arrow) × List·Memᴰ a (G .arrows) × (a .start ≡ s)

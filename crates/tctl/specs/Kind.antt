@@ -6,6 +6,7 @@ use Rattle.tctl.specs.Formula.{Formula, always, label, not, and, or, som
 pub data Runs : Type 0 where
   allRuns someRun : Runs
 
+-- "and the other way round"
 abbrev pub other : Runs → Runs
 other allRuns = someRun
 other someRun = allRuns

@@ -6,7 +6,7 @@ use lib.ListN.{length}
 use lib.Seq.{length-take-le}
 use native.Mathlib.Omega.{arith}
 use denote.Ref.{now}
-use Rattle.chart.proofs.Accepted.{well-formed}
+use Rattle.chart.proofs.WellFormed.{well-formed}
 use Rattle.rule.proofs.Accepted.{accepted}
 use Rattle.checker.specs.Check.{scratchSize}
 use Rattle.checker.proofs.Chain.{Admitted, input-passes}

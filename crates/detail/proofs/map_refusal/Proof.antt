@@ -1,7 +1,7 @@
 -- Row 20, then the others.
 use borrow.Author.Needs.{needs}
 use denote.Ref.{now}
-use Rattle.chart.proofs.Accepted.{well-formed}
+use Rattle.chart.proofs.WellFormed.{well-formed}
 use Rattle.detail.proofs.Passed.{map-whole}
 use Rattle.detail.proofs.Chain.{form-stops, mapped-next}
 use Rattle.detail.proofs.map_refusal.Statement.{statement}

@@ -21,4 +21,12 @@ returns-2 c =
     rw (← test .before .weight-of .ensures .0, ← test .no-end .ensures, c .before .if1 .left) (c .lesser .ensures)
 
 pub offered-spec : {M : Type 1} → statement M
-offered-spec = tie.close (tie.spec (λ c κs. search needs) (λ c κs. search needs) returns add-lesser (λ c κs. search needs) returns-2)
+offered-spec =
+    tie.close
+    (tie.spec
+    (λ c κs. search needs)
+    (λ c κs. search needs)
+    returns
+    add-lesser
+    (λ c κs. search needs)
+    returns-2)

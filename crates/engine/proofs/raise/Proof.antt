@@ -1,4 +1,4 @@
--- Nothing changes, or the number is set.
+-- Nothing changes, or the value is set, with the arrow as its hint.
 use mathlib.Core.Path.{_∙_}
 use native.Mathlib.Omega.{arith}
 use denote.Ref.{now}

@@ -65,7 +65,8 @@ more c =
     let l : i < arrowCount chart = omega (arith, read .before .if1 .left, start .pre .0 .arrows) in
     let mem = subst (λ v. List·Memᴰ (arrowOf v) (chartOf chart .arrows)) (sym e) (arrow-mem chart i l) in (
       omega (arith, arrow-ends (start .pre .0) i (read .before .if1 .left) .1, ap (λ v. v .end) e),
-      led-more (at-loop .loop .inv .2) w mem (left .if2 .left) (eq-eqb _ _ (marked .if3 .left)) (c .time-passes .ensures),
+      led-more (at-loop .loop .inv .2) w mem (left .if2 .left) (eq-eqb _ _ (marked .if3 .left))
+          (c .time-passes .ensures),
     )
 
 returns-4 : tie.Need-returns-4 Inv-loop μ-loop

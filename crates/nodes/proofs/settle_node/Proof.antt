@@ -7,7 +7,7 @@ use denote.Ref.{now}
 use Rattle.chart.proofs.Reading.{labels-inside}
 use Rattle.rule.proofs.Accepted.{accepted}
 use Rattle.rule.proofs.Read.{Node, label-low, a-lower, b-lower}
-use Rattle.nodes.specs.Parts.{Lower}
+use Rattle.nodes.specs.Parts.{OperandsBelow}
 use Rattle.nodes.proofs.Settled.{
   settled-always,
   settled-label,
@@ -47,7 +47,7 @@ module _ (c : tie.After-node-at) where
 
   -- two operands: their rows are lower
   module _ (two : 3 ≤ c .node-at .result .operation) where
-    low : Lower (start .args .t) (c .node-at .result)
+    low : OperandsBelow (start .args .t) (c .node-at .result)
     low = record { left = a-lower node (omega (arith, two)); right = b-lower node two }
 
     lower :

@@ -1,5 +1,6 @@
 -- `reader::hand_out` meets its contract: step by step, by hand. The reader that `new` makes is held in a local,
--- where its lifetime has no name, and passed on to `peek`. All that is known of the two is that each meets its contract.
+-- where its lifetime has no name, and passed on to `peek`. All that is known of the two is that they meet their
+-- contracts.
 use mathlib.Core.Path.{_≡_, refl, _∙_}
 use Prim.Native.Nat.{ℕ, _<_, _^_}
 use mathlib.Core.List.{List, [], _∷_}

@@ -11,7 +11,7 @@ use Rattle.outcome.specs.declared.Outcome.{Outcome}
 use Rattle.chart.specs.Bytes.{arrowCount}
 use Rattle.chart.specs.Shape.{Passed}
 use Rattle.chart.specs.Refusals.{chartRefusal}
-use Rattle.chart.proofs.Accepted.{well-formed}
+use Rattle.chart.proofs.WellFormed.{well-formed}
 use Rattle.chart.proofs.Arrow.{arrow-inside}
 use Rattle.chart.proofs.Reading.{shaped}
 use Rattle.reader.specs.declared.Handed.{Handed}

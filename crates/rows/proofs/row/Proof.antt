@@ -11,4 +11,11 @@ returns-2 c = rw (c .before .enum-told2 .given .1) (c .part2 .ensures)
 
 pub row-spec : {M : Type 1} → statement M
 row-spec =
-    tie.close (tie.spec (λ c. search needs) (λ c κs. search needs) (λ c. search needs) (λ c κs. search needs) returns returns-2)
+    tie.close
+    (tie.spec
+    (λ c. search needs)
+    (λ c κs. search needs)
+    (λ c. search needs)
+    (λ c κs. search needs)
+    returns
+    returns-2)

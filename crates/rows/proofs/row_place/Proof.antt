@@ -11,7 +11,8 @@ use Rattle.rows.proofs.row_place.Tie as tie
 -- past the two tests the row lies in the table
 lies :
     (c : tie.Else2) →
-    c .before .before .args .t * c .before .before .args .n + c .before .before .args .n ≤ c .before .before .args .bytes
+    c .before .before .args .t * c .before .before .args .n + c .before .before .args .n ≤
+    c .before .before .args .bytes
 lies c = inside _ _ _ (c .before .if1 .left) (c .if2 .left)
 
 returns : tie.Need-returns

@@ -133,7 +133,8 @@ settle-same-length-5 t c =
     let own = c .before .before .before .before in
     let right = own .before .before .before .before .before .before .before in
     let left = right .before .before .before .before .before .before .before .before .before in
-    own .settle-node3 .kept .1 .1 .1 .1 .1 .0 ∙ right .settle2 .kept .1 .1 .1 .1 .1 .0 ∙ left .settle .kept .1 .1 .1 .1 .1 .0
+    own .settle-node3 .kept .1 .1 .1 .1 .1 .0 ∙ right .settle2 .kept .1 .1 .1 .1 .1 .0 ∙
+    left .settle .kept .1 .1 .1 .1 .1 .0
 
 settle-same-length-6 : (t : ℕ) → settle-lts.Need-same-length-6 (calls t) (settle-at t) settle.Post
 settle-same-length-6 t c =

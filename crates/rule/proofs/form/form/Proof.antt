@@ -1,4 +1,4 @@
--- The table's rule: antt computes the 256 values of `formOf` and compares them with the table's, once.
+-- The table's rule: one computation compares the 256 values of `formOf` with the table's.
 use borrow.Author.Needs.{needs}
 use Rattle.tctl.specs.Tabulate.{tabulate}
 use Rattle.tctl.proofs.Tabulate.{getD-tabulate}

@@ -32,6 +32,7 @@ pub record WellFormed (s : List ℕ) : Type 0 where
   pub slots : (i : ℕ) → i < arrowCount s → emptySlot (arrowWords s i) ≡ false
   pub left : (v : ℕ) → v < stateCount s → leftBy s (arrowCount s) v ≡ true
 
+-- no row is met, so each condition is false
 pub well-formed : (s : List ℕ) → chartRefusal s .number ≡ 0 → WellFormed s
 unfolding chartTable
 well-formed s e =
@@ -75,6 +76,7 @@ module _ (s : List ℕ) (ok : WellFormed s) where
       subst (λ b. Within (b .fewest) (b .most)) (sym (x .2))
       (slot-within (arrowWords s (x .0)) (ok .slots (x .0) (x .1)))
 
+  -- row 9 found for each state an arrow that leaves it
   pub chart-left : (v : ℕ) → v < states (chartOf s) → (a : Arrow) × List·Memᴰ a (chartOf s .arrows) × (a .start ≡ v)
   unfolding leftBy
   chart-left v l =
