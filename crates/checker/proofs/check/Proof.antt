@@ -129,21 +129,7 @@ returns-2 c =
 pub check-spec : {M : Type 1} → statement M
 check-spec =
     tie.close
-    (tie.spec
-    (λ c κs. search needs)
-    (λ c. search needs)
-    (λ c. search needs)
-    returns
-    state-count-requires
-    arrow-count-requires
-    node-count-requires
-    slice-relend-prefix-judged
-    slice-aggregate-judged
-    judged-requires
-    scratch-size-requires
-    slice-relend-prefix-clear
-    slice-aggregate-clear
-    (λ c κs. search needs)
-    (λ c. search needs)
-    (λ c. search needs)
-    returns-2)
+    (tie.spec (λ c κs. search needs) (λ c. search needs) (λ c. search needs) returns state-count-requires
+    arrow-count-requires node-count-requires slice-relend-prefix-judged slice-aggregate-judged judged-requires
+    scratch-size-requires slice-relend-prefix-clear slice-aggregate-clear (λ c κs. search needs) (λ c. search needs)
+    (λ c. search needs) returns-2)

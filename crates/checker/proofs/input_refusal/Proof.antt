@@ -52,12 +52,5 @@ returns-3 c =
 pub input-refusal-spec : {M : Type 1} → statement M
 input-refusal-spec =
     tie.close
-    (tie.spec
-    (λ c κs. search needs)
-    returns
-    (λ c κs. search needs)
-    returns-2
-    state-count-requires
-    node-count-requires
-    room-refusal-requires
-    returns-3)
+    (tie.spec (λ c κs. search needs) returns (λ c κs. search needs) returns-2 state-count-requires
+    node-count-requires room-refusal-requires returns-3)

@@ -39,12 +39,5 @@ returns-3 c =
 pub room-refusal-spec : {M : Type 1} → statement M
 room-refusal-spec =
     tie.close
-    (tie.spec
-    mul-if1
-    (λ c κs. search needs)
-    returns
-    (λ c κs. search needs)
-    (λ c κs. search needs)
-    returns-2
-    (λ c κs. search needs)
-    returns-3)
+    (tie.spec mul-if1 (λ c κs. search needs) returns (λ c κs. search needs) (λ c κs. search needs) returns-2
+    (λ c κs. search needs) returns-3)

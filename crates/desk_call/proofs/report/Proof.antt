@@ -53,16 +53,6 @@ returns-2 c =
 pub report-spec : {M : Type 1} → statement M
 report-spec =
     tie.close
-    (tie.spec
-    (λ c. search needs)
-    (λ c. search needs)
-    (λ c κs. search needs)
-    (λ c κs. search needs)
-    (λ c. search needs)
-    returns
-    state-count-requires
-    node-count-requires
-    (λ c. search needs)
-    list-requires
-    (λ c. search needs)
-    returns-2)
+    (tie.spec (λ c. search needs) (λ c. search needs) (λ c κs. search needs) (λ c κs. search needs)
+    (λ c. search needs) returns state-count-requires node-count-requires (λ c. search needs) list-requires
+    (λ c. search needs) returns-2)

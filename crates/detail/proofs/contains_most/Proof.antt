@@ -17,5 +17,4 @@ returns-3 c =
     rw (← first .before .no-end .ensures, first .if1 .left, ← c .before .no-end2 .ensures, c .if2 .left)
 
 pub contains-most-spec : {M : Type 1} → statement M
-contains-most-spec =
-    tie.close (tie.spec (λ c κs. search needs) returns (λ c κs. search needs) returns-2 returns-3)
+contains-most-spec = tie.close (tie.spec (λ c κs. search needs) returns (λ c κs. search needs) returns-2 returns-3)

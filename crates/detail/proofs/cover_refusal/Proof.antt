@@ -84,19 +84,6 @@ returns-2 c = c .accepted .ensures ∙ search-ended 23 (λ v l. c .before .befor
 pub cover-refusal-spec : {M : Type 1} → statement M
 cover-refusal-spec =
     tie.close
-    (tie.spec
-    Inv-loop
-    μ-loop
-    loop-holds
-    arrow-at-requires
-    entry-at-requires
-    entry-at-requires-2
-    covered-arrow-requires
-    cast-refused
-    (λ c κs. tt)
-    returns
-    (λ c. omega arith)
-    (λ c. omega arith)
-    loop-again
-    (λ c κs. tt)
-    returns-2)
+    (tie.spec Inv-loop μ-loop loop-holds arrow-at-requires entry-at-requires entry-at-requires-2
+    covered-arrow-requires cast-refused (λ c κs. tt) returns (λ c. omega arith) (λ c. omega arith) loop-again
+    (λ c κs. tt) returns-2)

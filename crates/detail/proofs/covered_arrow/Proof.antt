@@ -61,14 +61,5 @@ returns-2 c =
 pub covered-arrow-spec : {M : Type 1} → statement M
 covered-arrow-spec =
     tie.close
-    (tie.spec
-    Inv-loop
-    μ-loop
-    loop-holds
-    arrow-at-requires
-    (λ c κs. tt)
-    returns
-    (λ c. omega arith)
-    (λ c. omega arith)
-    loop-again
-    returns-2)
+    (tie.spec Inv-loop μ-loop loop-holds arrow-at-requires (λ c κs. tt) returns (λ c. omega arith)
+    (λ c. omega arith) loop-again returns-2)

@@ -23,5 +23,4 @@ returns-4 c =
     simp (eq-eqb _ _ starts, eq-eqb _ _ ends, le-leb _ _ (c .before .if3 .left)) (c .contains-most .ensures)
 
 pub covers-arrow-spec : {M : Type 1} → statement M
-covers-arrow-spec =
-    tie.close (tie.spec returns returns-2 returns-3 (λ c κs. search needs) returns-4)
+covers-arrow-spec = tie.close (tie.spec returns returns-2 returns-3 (λ c κs. search needs) returns-4)

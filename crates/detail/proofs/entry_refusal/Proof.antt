@@ -48,16 +48,5 @@ returns-2 c = c .accepted .ensures ∙ search-ended 21 (λ v l. c .before .befor
 pub entry-refusal-spec : {M : Type 1} → statement M
 entry-refusal-spec =
     tie.close
-    (tie.spec
-    Inv-loop
-    μ-loop
-    loop-holds
-    (λ c κs. omega arith)
-    (λ c. omega arith)
-    (λ c κs. tt)
-    returns
-    (λ c. omega arith)
-    (λ c. omega arith)
-    loop-again
-    (λ c κs. tt)
-    returns-2)
+    (tie.spec Inv-loop μ-loop loop-holds (λ c κs. omega arith) (λ c. omega arith) (λ c κs. tt) returns
+    (λ c. omega arith) (λ c. omega arith) loop-again (λ c κs. tt) returns-2)

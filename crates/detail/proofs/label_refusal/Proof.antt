@@ -74,18 +74,5 @@ returns-2 c = c .accepted .ensures ∙ search-ended 22 (λ v l. c .before .befor
 pub label-refusal-spec : {M : Type 1} → statement M
 label-refusal-spec =
     tie.close
-    (tie.spec
-    Inv-loop
-    μ-loop
-    loop-holds
-    label-word-requires
-    entry-at-requires
-    label-word-requires-2
-    cast-refused
-    (λ c κs. tt)
-    returns
-    (λ c. omega arith)
-    (λ c. omega arith)
-    loop-again
-    (λ c κs. tt)
-    returns-2)
+    (tie.spec Inv-loop μ-loop loop-holds label-word-requires entry-at-requires label-word-requires-2 cast-refused
+    (λ c κs. tt) returns (λ c. omega arith) (λ c. omega arith) loop-again (λ c κs. tt) returns-2)

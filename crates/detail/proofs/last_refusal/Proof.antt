@@ -26,5 +26,4 @@ returns-2 c =
     (c .before .if1 .left) (c .cover-refusal .ensures)
 
 pub last-refusal-spec : {M : Type 1} → statement M
-last-refusal-spec =
-    tie.close (tie.spec label-refusal-requires returns cover-refusal-requires returns-2)
+last-refusal-spec = tie.close (tie.spec label-refusal-requires returns cover-refusal-requires returns-2)

@@ -59,10 +59,4 @@ returns-3 c =
 pub map-check-spec : {M : Type 1} → statement M
 map-check-spec =
     tie.close
-    (tie.spec
-    (λ c κs. search needs)
-    returns
-    (λ c κs. search needs)
-    returns-2
-    map-refusal-requires
-    returns-3)
+    (tie.spec (λ c κs. search needs) returns (λ c κs. search needs) returns-2 map-refusal-requires returns-3)

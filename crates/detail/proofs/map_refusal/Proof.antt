@@ -55,12 +55,5 @@ returns-2 c =
 pub map-refusal-spec : {M : Type 1} → statement M
 map-refusal-spec =
     tie.close
-    (tie.spec
-    state-count-requires
-    arrow-count-requires
-    state-count-requires-2
-    arrow-count-requires-2
-    (λ c κs. search needs)
-    returns
-    mapped-refusal-requires
-    returns-2)
+    (tie.spec state-count-requires arrow-count-requires state-count-requires-2 arrow-count-requires-2
+    (λ c κs. search needs) returns mapped-refusal-requires returns-2)

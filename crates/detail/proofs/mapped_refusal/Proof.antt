@@ -35,5 +35,4 @@ returns-2 c =
     (c .before .if1 .left) (c .last-refusal .ensures)
 
 pub mapped-refusal-spec : {M : Type 1} → statement M
-mapped-refusal-spec =
-    tie.close (tie.spec entry-refusal-requires returns last-refusal-requires returns-2)
+mapped-refusal-spec = tie.close (tie.spec entry-refusal-requires returns last-refusal-requires returns-2)

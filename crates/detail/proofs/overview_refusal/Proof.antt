@@ -27,10 +27,4 @@ returns-2 c =
 pub overview-refusal-spec : {M : Type 1} → statement M
 overview-refusal-spec =
     tie.close
-    (tie.spec
-    (λ c κs. search needs)
-    add-refused
-    (λ c κs. search needs)
-    returns
-    (λ c κs. search needs)
-    returns-2)
+    (tie.spec (λ c κs. search needs) add-refused (λ c κs. search needs) returns (λ c κs. search needs) returns-2)

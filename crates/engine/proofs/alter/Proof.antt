@@ -27,12 +27,5 @@ returns-2 c =
 pub alter-spec : {M : Type 1} → statement M
 alter-spec =
     tie.close
-    (tie.spec
-    (λ c. search needs)
-    lower-requires
-    (λ c. search needs)
-    raise-requires
-    (λ c. search needs)
-    returns
-    (λ c. search needs)
-    returns-2)
+    (tie.spec (λ c. search needs) lower-requires (λ c. search needs) raise-requires (λ c. search needs) returns
+    (λ c. search needs) returns-2)

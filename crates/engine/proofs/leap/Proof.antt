@@ -72,17 +72,5 @@ returns-4 c =
 pub leap-spec : {M : Type 1} → statement M
 leap-spec =
     tie.close
-    (tie.spec
-    mul-x
-    slice-read-x
-    (λ c κs. search needs)
-    returns
-    returns-2
-    circles-requires
-    (λ c. search needs)
-    returns-3
-    (λ c κs. search needs)
-    mul-numbers
-    slice-write-numbers
-    (λ c. search needs)
-    returns-4)
+    (tie.spec mul-x slice-read-x (λ c κs. search needs) returns returns-2 circles-requires (λ c. search needs)
+    returns-3 (λ c κs. search needs) mul-numbers slice-write-numbers (λ c. search needs) returns-4)

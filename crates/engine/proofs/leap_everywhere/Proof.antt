@@ -48,13 +48,5 @@ returns c = c .before .loop .inv .1
 pub leap-everywhere-spec : {M : Type 1} → statement M
 leap-everywhere-spec =
     tie.close
-    (tie.spec
-    Inv-loop
-    μ-loop
-    loop-holds
-    leap-requires
-    (λ c. omega arith)
-    (λ c. omega arith)
-    loop-again
-    same-length
+    (tie.spec Inv-loop μ-loop loop-holds leap-requires (λ c. omega arith) (λ c. omega arith) loop-again same-length
     returns)

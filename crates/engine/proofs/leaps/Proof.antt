@@ -27,12 +27,5 @@ returns-2 c =
 pub leaps-spec : {M : Type 1} → statement M
 leaps-spec =
     tie.close
-    (tie.spec
-    follow-requires
-    (λ c κs. search needs)
-    (λ c κs. search needs)
-    (λ c. search needs)
-    (λ c. search needs)
-    leap-everywhere-requires
-    (λ c. search needs)
-    returns-2)
+    (tie.spec follow-requires (λ c κs. search needs) (λ c κs. search needs) (λ c. search needs) (λ c. search needs)
+    leap-everywhere-requires (λ c. search needs) returns-2)

@@ -60,6 +60,4 @@ loop-again c =
     )
 
 pub least-spec : {M : Type 1} → statement M
-least-spec =
-    tie.close
-    (tie.spec Inv-loop μ-loop loop-holds sweep-requires same-length returns loop-less loop-again)
+least-spec = tie.close (tie.spec Inv-loop μ-loop loop-holds sweep-requires same-length returns loop-less loop-again)

@@ -112,15 +112,5 @@ loop-again c =
 pub rise-spec : {M : Type 1} → statement M
 rise-spec =
     tie.close
-    (tie.spec
-    Inv-loop
-    μ-loop
-    loop-holds
-    sweep-requires
-    same-length
-    returns
-    sub-leaps
-    leaps-requires
-    counted-requires
-    loop-less
-    loop-again)
+    (tie.spec Inv-loop μ-loop loop-holds sweep-requires same-length returns sub-leaps leaps-requires
+    counted-requires loop-less loop-again)

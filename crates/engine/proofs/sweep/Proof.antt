@@ -54,15 +54,5 @@ returns c = tried-all (omega (arith, c .before .loop .inv .0)) (c .before .loop 
 pub sweep-spec : {M : Type 1} → statement M
 sweep-spec =
     tie.close
-    (tie.spec
-    Inv-loop
-    μ-loop
-    loop-holds
-    turn-requires
-    step-requires
-    (λ c κs. tt)
-    (λ c. omega arith)
-    (λ c. omega arith)
-    loop-again
-    same-length
-    returns)
+    (tie.spec Inv-loop μ-loop loop-holds turn-requires step-requires (λ c κs. tt) (λ c. omega arith)
+    (λ c. omega arith) loop-again same-length returns)

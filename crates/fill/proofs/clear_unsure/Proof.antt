@@ -56,19 +56,6 @@ returns c =
 pub clear-unsure-spec : {M : Type 1} → statement M
 clear-unsure-spec =
     tie.close
-    (tie.spec
-    Inv-loop
-    μ-loop
-    loop-holds
-    arrow-at-requires
-    shared-slice-read-either
-    (λ c. omega arith)
-    slice-read-either
-    (λ c κs. tt)
-    (λ c. omega arith)
-    slice-write-numbers
-    (λ c. omega arith)
-    (λ c. omega arith)
-    loop-again
-    same-length
-    returns)
+    (tie.spec Inv-loop μ-loop loop-holds arrow-at-requires shared-slice-read-either (λ c. omega arith)
+    slice-read-either (λ c κs. tt) (λ c. omega arith) slice-write-numbers (λ c. omega arith) (λ c. omega arith)
+    loop-again same-length returns)

@@ -68,23 +68,6 @@ returns c = written-all (omega arith) (c .before .loop .inv .1)
 pub fill-spec : {M : Type 1} → statement M
 fill-spec =
     tie.close
-    (tie.spec
-    Inv-loop
-    μ-loop
-    (λ c. omega arith)
-    mul-left
-    mul-right
-    loop-holds
-    add-p
-    slice-read-p
-    add-q
-    slice-read-q
-    (λ c κs. tt)
-    (λ c. tt)
-    (λ c. omega arith)
-    (λ c. omega arith)
-    (λ c. omega arith)
-    (λ c. omega arith)
-    loop-again
-    same-length
-    returns)
+    (tie.spec Inv-loop μ-loop (λ c. omega arith) mul-left mul-right loop-holds add-p slice-read-p add-q slice-read-q
+    (λ c κs. tt) (λ c. tt) (λ c. omega arith) (λ c. omega arith) (λ c. omega arith) (λ c. omega arith) loop-again
+    same-length returns)

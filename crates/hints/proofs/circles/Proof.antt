@@ -81,21 +81,6 @@ returns-5 c = λ e. absurd (false≢true e)
 pub circles-spec : {M : Type 1} → statement M
 circles-spec =
     tie.close
-    (tie.spec
-    Inv-loop
-    μ-loop
-    loop-holds
-    (λ c. omega arith)
-    (λ c. omega arith)
-    (λ c κs. tt)
-    returns
-    arrow-at-requires
-    returns-2
-    shared-slice-read-if3
-    returns-3
-    (λ c κs. tt)
-    returns-4
-    (λ c. omega arith)
-    (λ c. omega arith)
-    loop-again
-    returns-5)
+    (tie.spec Inv-loop μ-loop loop-holds (λ c. omega arith) (λ c. omega arith) (λ c κs. tt) returns
+    arrow-at-requires returns-2 shared-slice-read-if3 returns-3 (λ c κs. tt) returns-4 (λ c. omega arith)
+    (λ c. omega arith) loop-again returns-5)

@@ -51,12 +51,5 @@ returns-2 c =
 pub kind-of-rule-spec : {M : Type 1} → statement M
 kind-of-rule-spec =
     tie.close
-    (tie.spec
-    (λ c κs. search needs)
-    returns
-    node-count-requires
-    sub-last
-    all-runs-requires
-    some-run-requires
-    (λ c κs. search needs)
-    returns-2)
+    (tie.spec (λ c κs. search needs) returns node-count-requires sub-last all-runs-requires some-run-requires
+    (λ c κs. search needs) returns-2)

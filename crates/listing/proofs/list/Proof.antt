@@ -44,11 +44,5 @@ returns c =
 pub list-spec : {M : Type 1} → statement M
 list-spec =
     tie.close
-    (tie.spec
-    (λ c. search needs)
-    (λ c. search needs)
-    put-numbers-requires
-    put-requires
-    put-nodes-requires
-    (λ c. search needs)
-    returns)
+    (tie.spec (λ c. search needs) (λ c. search needs) put-numbers-requires put-requires put-nodes-requires
+    (λ c. search needs) returns)

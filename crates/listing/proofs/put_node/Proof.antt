@@ -56,11 +56,5 @@ returns c =
 pub put-node-spec : {M : Type 1} → statement M
 put-node-spec =
     tie.close
-    (tie.spec
-    put-number-requires
-    put-requires
-    (λ c. search needs)
-    put-marks-requires
-    put-requires-2
-    (λ c. search needs)
-    returns)
+    (tie.spec put-number-requires put-requires (λ c. search needs) put-marks-requires put-requires-2
+    (λ c. search needs) returns)

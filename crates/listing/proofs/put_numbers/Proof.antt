@@ -56,10 +56,5 @@ returns c =
 pub put-numbers-spec : {M : Type 1} → statement M
 put-numbers-spec =
     tie.close
-    (tie.spec
-    put-word-requires
-    put-number-requires
-    put-word-requires-2
-    put-number-requires-2
-    (λ c. search needs)
+    (tie.spec put-word-requires put-number-requires put-word-requires-2 put-number-requires-2 (λ c. search needs)
     returns)

@@ -32,10 +32,4 @@ returns c =
 pub refuse-spec : {M : Type 1} → statement M
 refuse-spec =
     tie.close
-    (tie.spec
-    (λ c. search needs)
-    (λ c. search needs)
-    put-numbers-requires
-    put-requires
-    (λ c. search needs)
-    returns)
+    (tie.spec (λ c. search needs) (λ c. search needs) put-numbers-requires put-requires (λ c. search needs) returns)

@@ -51,12 +51,5 @@ returns-2 c =
 pub accepted-refusal-spec : {M : Type 1} → statement M
 accepted-refusal-spec =
     tie.close
-    (tie.spec
-    (λ c κs. search needs)
-    returns
-    state-count-requires
-    arrow-count-requires
-    array-borrow-prefix-numbers
-    slice-aggregate-loop-refusal
-    loop-refusal-requires
-    returns-2)
+    (tie.spec (λ c κs. search needs) returns state-count-requires arrow-count-requires array-borrow-prefix-numbers
+    slice-aggregate-loop-refusal loop-refusal-requires returns-2)

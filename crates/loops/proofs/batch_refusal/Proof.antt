@@ -90,23 +90,6 @@ returns-2 c = c .accepted .ensures ∙ search-ended 19 (λ v l. c .before .befor
 pub batch-refusal-spec : {M : Type 1} → statement M
 batch-refusal-spec =
     tie.close
-    (tie.spec
-    Inv-loop
-    μ-loop
-    climb-from-zero-requires
-    loop-holds
-    sub-j
-    mul-if1
-    slice-read-if1
-    cast-if1
-    shr-if1
-    cast-refused
-    (λ c κs. tt)
-    same-length
-    returns
-    (λ c. omega arith)
-    (λ c. omega arith)
-    loop-again
-    (λ c κs. tt)
-    same-length-2
-    returns-2)
+    (tie.spec Inv-loop μ-loop climb-from-zero-requires loop-holds sub-j mul-if1 slice-read-if1 cast-if1 shr-if1
+    cast-refused (λ c κs. tt) same-length returns (λ c. omega arith) (λ c. omega arith) loop-again (λ c κs. tt)
+    same-length-2 returns-2)

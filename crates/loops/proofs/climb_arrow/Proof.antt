@@ -35,5 +35,4 @@ returns-2 c =
     climbed-one (p .0) (p .1) (p .2) e (instant .if1 .left) (raised .raise .ensures)
 
 pub climb-arrow-spec : {M : Type 1} → statement M
-climb-arrow-spec =
-    tie.close (tie.spec arrow-at-requires returns raise-requires (λ c. search needs) returns-2)
+climb-arrow-spec = tie.close (tie.spec arrow-at-requires returns raise-requires (λ c. search needs) returns-2)

@@ -58,13 +58,4 @@ returns c =
 pub climb-from-zero-spec : {M : Type 1} → statement M
 climb-from-zero-spec =
     tie.close
-    (tie.spec
-    Inv-loop
-    μ-loop
-    (λ c κs. tt)
-    loop-holds
-    climb-round-requires
-    loop-less
-    loop-again
-    same-length
-    returns)
+    (tie.spec Inv-loop μ-loop (λ c κs. tt) loop-holds climb-round-requires loop-less loop-again same-length returns)

@@ -53,14 +53,5 @@ returns c =
 pub climb-round-spec : {M : Type 1} → statement M
 climb-round-spec =
     tie.close
-    (tie.spec
-    Inv-loop
-    μ-loop
-    loop-holds
-    climb-arrow-requires
-    add-raised
-    (λ c. omega arith)
-    (λ c. omega arith)
-    loop-again
-    same-length
-    returns)
+    (tie.spec Inv-loop μ-loop loop-holds climb-arrow-requires add-raised (λ c. omega arith) (λ c. omega arith)
+    loop-again same-length returns)

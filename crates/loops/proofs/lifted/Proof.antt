@@ -15,10 +15,4 @@ returns-2 c = rw (c .before .before .search2 .given .1, c .own-bit .ensures)
 pub lifted-spec : {M : Type 1} → statement M
 lifted-spec =
     tie.close
-    (tie.spec
-    (λ c. search needs)
-    rank-requires
-    (λ c. search needs)
-    (λ c κs. search needs)
-    returns
-    returns-2)
+    (tie.spec (λ c. search needs) rank-requires (λ c. search needs) (λ c κs. search needs) returns returns-2)

@@ -72,17 +72,5 @@ returns-2 c =
 pub lowest-on-loop-spec : {M : Type 1} → statement M
 lowest-on-loop-spec =
     tie.close
-    (tie.spec
-    Inv-loop
-    μ-loop
-    loop-holds
-    add-lesser
-    (λ c κs. tt)
-    batch-refusal-requires
-    same-length
-    returns
-    loop-less
-    loop-again
-    (λ c κs. tt)
-    same-length-2
-    returns-2)
+    (tie.spec Inv-loop μ-loop loop-holds add-lesser (λ c κs. tt) batch-refusal-requires same-length returns
+    loop-less loop-again (λ c κs. tt) same-length-2 returns-2)

@@ -16,14 +16,5 @@ returns-2 c = rises _ _ _ _ (c .before .lifted .ensures) (c .if1 .left)
 pub raise-spec : {M : Type 1} → statement M
 raise-spec =
     tie.close
-    (tie.spec
-    (λ c. search needs)
-    (λ c. search needs)
-    (λ c. search needs)
-    (λ c. search needs)
-    lifted-requires
-    returns
-    (λ c. search needs)
-    (λ c. search needs)
-    (λ c. search needs)
-    returns-2)
+    (tie.spec (λ c. search needs) (λ c. search needs) (λ c. search needs) (λ c. search needs) lifted-requires
+    returns (λ c. search needs) (λ c. search needs) (λ c. search needs) returns-2)

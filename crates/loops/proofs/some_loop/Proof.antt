@@ -64,18 +64,5 @@ returns-2 c =
 pub some-loop-spec : {M : Type 1} → statement M
 some-loop-spec =
     tie.close
-    (tie.spec
-    Inv-loop
-    μ-loop
-    cast-cap
-    climb-from-zero-requires
-    loop-holds
-    mul-if1
-    slice-read-if1
-    same-length
-    returns
-    (λ c. omega arith)
-    (λ c. omega arith)
-    loop-again
-    same-length-2
-    returns-2)
+    (tie.spec Inv-loop μ-loop cast-cap climb-from-zero-requires loop-holds mul-if1 slice-read-if1 same-length
+    returns (λ c. omega arith) (λ c. omega arith) loop-again same-length-2 returns-2)

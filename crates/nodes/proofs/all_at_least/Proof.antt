@@ -30,11 +30,5 @@ returns c =
 pub all-at-least-spec : {M : Type 1} → statement M
 all-at-least-spec =
     tie.close
-    (tie.spec
-    (λ c κs. search needs)
-    descend-requires
-    (λ c. search needs)
-    (λ c κs. search needs)
-    (λ c. search needs)
-    (λ c. search needs)
-    returns)
+    (tie.spec (λ c κs. search needs) descend-requires (λ c. search needs) (λ c κs. search needs) (λ c. search needs)
+    (λ c. search needs) returns)

@@ -33,15 +33,6 @@ returns c =
 pub climb-spec : {M : Type 1} → statement M
 climb-spec =
     tie.close
-    (tie.spec
-    fill-numbers-requires
-    (λ c κs. search needs)
-    (λ c. search needs)
-    (λ c. search needs)
-    (λ c. search needs)
-    (λ c. search needs)
-    (λ c. search needs)
-    greatest-requires
-    (λ c. search needs)
-    (λ c. search needs)
-    returns)
+    (tie.spec fill-numbers-requires (λ c κs. search needs) (λ c. search needs) (λ c. search needs)
+    (λ c. search needs) (λ c. search needs) (λ c. search needs) greatest-requires (λ c. search needs)
+    (λ c. search needs) returns)

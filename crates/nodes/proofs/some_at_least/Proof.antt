@@ -22,10 +22,5 @@ returns c =
 pub some-at-least-spec : {M : Type 1} → statement M
 some-at-least-spec =
     tie.close
-    (tie.spec
-    (λ c. search needs)
-    climb-requires
-    (λ c κs. search needs)
-    (λ c. search needs)
-    (λ c. search needs)
+    (tie.spec (λ c. search needs) climb-requires (λ c κs. search needs) (λ c. search needs) (λ c. search needs)
     returns)

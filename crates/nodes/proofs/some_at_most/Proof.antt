@@ -36,11 +36,5 @@ returns c =
 pub some-at-most-spec : {M : Type 1} → statement M
 some-at-most-spec =
     tie.close
-    (tie.spec
-    (λ c. search needs)
-    fill-numbers-requires
-    descend-requires
-    (λ c κs. search needs)
-    (λ c. search needs)
-    (λ c. search needs)
-    returns)
+    (tie.spec (λ c. search needs) fill-numbers-requires descend-requires (λ c κs. search needs) (λ c. search needs)
+    (λ c. search needs) returns)

@@ -23,4 +23,5 @@ returns c =
 pub unhindered-spec : {M : Type 1} → statement M
 unhindered-spec =
     tie.close
-    (tie.spec (λ c. search needs) climb-requires (λ c κs. search needs) (λ c. search needs) (λ c. search needs) returns)
+    (tie.spec (λ c. search needs) climb-requires (λ c κs. search needs) (λ c. search needs) (λ c. search needs)
+    returns)

@@ -77,12 +77,5 @@ returns-3 c =
 pub step-spec : {M : Type 1} → statement M
 step-spec =
     tie.close
-    (tie.spec
-    (λ c κs. search needs)
-    arrow-count-requires
-    state-count-requires
-    arrow-at-requires
-    (λ c. search needs)
-    returns
-    returns-2
-    returns-3)
+    (tie.spec (λ c κs. search needs) arrow-count-requires state-count-requires arrow-at-requires (λ c. search needs)
+    returns returns-2 returns-3)

@@ -12,10 +12,5 @@ returns-2 c = rw (c .before .enum-told2 .given .1) (c .part2 .ensures)
 pub row-spec : {M : Type 1} → statement M
 row-spec =
     tie.close
-    (tie.spec
-    (λ c. search needs)
-    (λ c κs. search needs)
-    (λ c. search needs)
-    (λ c κs. search needs)
-    returns
+    (tie.spec (λ c. search needs) (λ c κs. search needs) (λ c. search needs) (λ c κs. search needs) returns
     returns-2)

@@ -63,17 +63,5 @@ returns-2 c =
 pub arrow-refusal-spec : {M : Type 1} → statement M
 arrow-refusal-spec =
     tie.close
-    (tie.spec
-    Inv-loop
-    μ-loop
-    loop-holds
-    arrow-at-requires
-    (λ c κs. search needs)
-    cast-refused
-    (λ c κs. search needs)
-    returns
-    (λ c. omega arith)
-    (λ c. omega arith)
-    loop-again
-    (λ c κs. search needs)
-    returns-2)
+    (tie.spec Inv-loop μ-loop loop-holds arrow-at-requires (λ c κs. search needs) cast-refused
+    (λ c κs. search needs) returns (λ c. omega arith) (λ c. omega arith) loop-again (λ c κs. search needs) returns-2)

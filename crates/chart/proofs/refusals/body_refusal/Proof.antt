@@ -35,10 +35,4 @@ returns-3 c =
 pub body-refusal-spec : {M : Type 1} → statement M
 body-refusal-spec =
     tie.close
-    (tie.spec
-    (λ c κs. search needs)
-    returns
-    (λ c κs. search needs)
-    returns-2
-    state-refusal-requires
-    returns-3)
+    (tie.spec (λ c κs. search needs) returns (λ c κs. search needs) returns-2 state-refusal-requires returns-3)

@@ -54,12 +54,5 @@ returns-3 c =
 pub chart-refusal-spec : {M : Type 1} → statement M
 chart-refusal-spec =
     tie.close
-    (tie.spec
-    (λ c κs. search needs)
-    returns
-    size-refusal-requires
-    returns-2
-    state-count-requires
-    arrow-count-requires
-    body-refusal-requires
-    returns-3)
+    (tie.spec (λ c κs. search needs) returns size-refusal-requires returns-2 state-count-requires
+    arrow-count-requires body-refusal-requires returns-3)

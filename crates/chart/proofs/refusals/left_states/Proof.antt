@@ -60,13 +60,5 @@ returns c =
 pub left-states-spec : {M : Type 1} → statement M
 left-states-spec =
     tie.close
-    (tie.spec
-    Inv-loop
-    μ-loop
-    loop-holds
-    arrow-at-requires
-    array-write-left
-    (λ c. omega arith)
-    (λ c. omega arith)
-    loop-again
-    returns)
+    (tie.spec Inv-loop μ-loop loop-holds arrow-at-requires array-write-left (λ c. omega arith) (λ c. omega arith)
+    loop-again returns)

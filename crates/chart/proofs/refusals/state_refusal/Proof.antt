@@ -57,17 +57,5 @@ returns-2 c = c .accepted .ensures ∙ search-ended 9 (λ u l. c .before .before
 pub state-refusal-spec : {M : Type 1} → statement M
 state-refusal-spec =
     tie.close
-    (tie.spec
-    Inv-loop
-    μ-loop
-    left-states-requires
-    loop-holds
-    array-read-if1
-    cast-refused
-    (λ c κs. search needs)
-    returns
-    (λ c. omega arith)
-    (λ c. omega arith)
-    loop-again
-    (λ c κs. search needs)
-    returns-2)
+    (tie.spec Inv-loop μ-loop left-states-requires loop-holds array-read-if1 cast-refused (λ c κs. search needs)
+    returns (λ c. omega arith) (λ c. omega arith) loop-again (λ c κs. search needs) returns-2)
