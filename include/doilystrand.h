@@ -44,6 +44,15 @@ typedef struct doilystrand_place {
     size_t size;
 } doilystrand_place;
 
+/* What a chart reader hands out: found is 1 with an arrow's words (a most of 65,535 is no end), 0 if it is finished. */
+typedef struct doilystrand_arrow_words {
+    uint32_t found;
+    size_t start;
+    size_t end;
+    uint32_t fewest;
+    uint32_t most;
+} doilystrand_arrow_words;
+
 /*
  * Marks every node of the rule at every state of the chart: byte t * n + s of marks is 1 if node t holds at state s,
  * else 0. It wants k * n bytes of marks and 4n numbers of scratch. After acceptance and after refusal 19 the first 4n
@@ -67,6 +76,12 @@ doilystrand_outcome doilystrand_map_check(const uint8_t *detail, size_t detail_s
  * size are 0 if the row doesn't lie wholly in it.
  */
 doilystrand_place doilystrand_row(size_t overview_size, size_t detail_size, bool choice, size_t n, size_t t);
+
+/*
+ * What a chart reader of these bytes at this number hands out: arrow number of a chart that passes checks 1 to 9;
+ * finished past the last one, and at once over any other bytes.
+ */
+doilystrand_arrow_words doilystrand_arrow(const uint8_t *chart, size_t chart_size, size_t number);
 
 #ifdef __cplusplus
 }

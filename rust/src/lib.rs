@@ -34,6 +34,15 @@ pub enum Choice {
     Detail,
 }
 
+/// One arrow as a chart's bytes give it; a most of 65,535 is no end.
+#[derive(Clone, Copy, Debug, PartialEq, Eq)]
+pub struct ArrowWords {
+    pub start: u16,
+    pub end: u16,
+    pub fewest: u16,
+    pub most: u16,
+}
+
 /// As the library hands kind of rule's answer over: 0 neither, 1 all-runs, 2 some-run, 3 both.
 #[repr(C)]
 struct CodedAnswer {
@@ -48,9 +57,19 @@ struct Place {
     size: usize,
 }
 
+/// As the library hands an arrow over: found is 1 with its words, and 0 with zeros where the reader is finished.
+#[repr(C)]
+struct CodedArrow {
+    found: u32,
+    start: usize,
+    end: usize,
+    fewest: u32,
+    most: u32,
+}
+
 /// The calls as `include/doilystrand.h` declares them. A slice crosses as its pointer and its length.
 mod call {
-    use super::{CodedAnswer, Outcome, Place};
+    use super::{CodedAnswer, CodedArrow, Outcome, Place};
 
     extern "C" {
         #[rustfmt::skip]
@@ -75,6 +94,7 @@ mod call {
             map_size: usize,
         ) -> Outcome;
         pub fn doilystrand_row(overview_size: usize, detail_size: usize, choice: bool, n: usize, t: usize) -> Place;
+        pub fn doilystrand_arrow(chart: *const u8, chart_size: usize, number: usize) -> CodedArrow;
     }
 }
 
@@ -135,4 +155,17 @@ pub fn row<'a>(overview: &'a [u8], detail: &'a [u8], choice: Choice, n: usize, t
     };
     // SAFETY: by row's proved promise, start + size is at most the length of the chosen table.
     unsafe { table.get_unchecked(place.start..place.start + place.size) }
+}
+
+/// What a chart reader of these bytes at this number hands out: that arrow of a chart that passes checks 1 to 9; none
+/// where it is finished.
+pub fn arrow(chart: &[u8], number: usize) -> Option<ArrowWords> {
+    // SAFETY: the pointer comes with the length of its slice, which is only read.
+    let coded = unsafe { call::doilystrand_arrow(chart.as_ptr(), chart.len(), number) };
+    (coded.found == 1).then(|| ArrowWords {
+        start: coded.start as u16,
+        end: coded.end as u16,
+        fewest: coded.fewest as u16,
+        most: coded.most as u16,
+    })
 }

@@ -79,12 +79,25 @@ static void rows_are_found(void) {
     expect(p.start == 0 && p.size == 0, "the greatest numbers");
 }
 
+static void arrows_are_handed_out(void) {
+    size_t size = sizeof short_chart;
+    doilystrand_arrow_words a = doilystrand_arrow(short_chart, size, 0);
+    expect(a.found == 1 && a.start == 0 && a.end == 1 && a.fewest == 5 && a.most == 10, "arrow 0 of Short");
+    a = doilystrand_arrow(short_chart, size, 2);
+    expect(a.found == 1 && a.start == 2 && a.end == 0 && a.fewest == 20 && a.most == 65535, "arrow 2 of Short");
+    expect(doilystrand_arrow(short_chart, size, 3).found == 0, "Short has three arrows");
+    expect(doilystrand_arrow(short_chart, size, SIZE_MAX).found == 0, "the greatest number");
+    expect(doilystrand_arrow(short_chart, size - 1, 0).found == 0, "a cut chart is read");
+    expect(doilystrand_arrow(NULL, 0, 0).found == 0, "an empty chart is read");
+}
+
 int main(void) {
     marks_are_written();
     refusals_are_told();
     kinds_are_told();
     maps_are_checked();
     rows_are_found();
+    arrows_are_handed_out();
     if (failures == 0) printf("calls: from C as promised\n");
     return failures != 0;
 }

@@ -8,7 +8,10 @@ use Rattle.rule.specs.Refusals.{ruleRefusal}
 use Rattle.kind.specs.declared.Kind.{Kind}
 use Rattle.kind.specs.declared.Kind.the-variants.{AllRuns, SomeRun, Both, Neither}
 use Rattle.kind.specs.Kind.{kindFor, ruleIs}
+use Rattle.reader.specs.declared.Handed.{Handed}
+use Rattle.reader.specs.declared.Handed.the-variants.{Arrow, Finished}
 use Rattle.ffi.specs.declared.CodedAnswer.{CodedAnswer}
+use Rattle.ffi.specs.declared.CodedArrow.{CodedArrow}
 
 -- "all-runs, some-run, both or neither", as a number
 abbrev pub code : Kind → ℕ
@@ -25,3 +28,8 @@ pub record Coded (s : List ℕ) (r : CodedAnswer) : Type 0 where
 -- "a choice (overview or detail)": the length of the chosen table, the detail's for true
 abbrev pub sizeOf : Bool → ℕ → ℕ → ℕ
 sizeOf choice overview detail = cond choice detail overview
+
+-- what the chart reader "hands out", or "finished"
+abbrev pub codedArrow : Handed → CodedArrow
+codedArrow (Arrow a) = record { found = 1; start = a .start; end = a .end; fewest = a .fewest; most = a .most }
+codedArrow Finished = record { found = 0; start = 0; end = 0; fewest = 0; most = 0 }

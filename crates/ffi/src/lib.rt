@@ -1,12 +1,16 @@
 // The open calls for C and Rust, with the promises that they have themselves. What C has no form for crosses as
-// numbers: the kind of a rule, and the place of a row instead of the part itself.
+// numbers: the kind of a rule, the place of a row instead of the part itself, and what the chart reader hands out.
 ghost use mathlib.Core.Path.{_≡_};
 ghost use Rattle.rows.specs.Row.{placeOf};
 ghost use Rattle.detail.specs.Refusals.{mapRefusal};
 ghost use Rattle.checker.specs.Check.{Checked};
-ghost use Rattle.ffi.specs.Coded.{code, Coded, sizeOf};
+ghost use Rattle.reader.specs.Reading.{handed};
+ghost use Rattle.reader.specs.declared.Handed.the-variants.{Arrow, Finished};
+ghost use Rattle.ffi.specs.Coded.{code, Coded, sizeOf, codedArrow};
+use chart::ArrowWords;
 use kind::Kind;
 use outcome::Outcome;
+use reader::Handed;
 use rows::Place;
 
 // What kind of rule answers, with the kind as its code.
@@ -75,4 +79,49 @@ pub extern "C" fn doilystrand_row(
         return rows::row_place(detail, n, t);
     }
     rows::row_place(overview, n, t)
+}
+
+// What the chart reader hands out: found is 1 with an arrow's words, and 0 with zeros where it is finished.
+#[repr(C)]
+pub struct CodedArrow {
+    pub found: u32,
+    pub start: usize,
+    pub end: usize,
+    pub fewest: u32,
+    pub most: u32,
+}
+
+fn coded_words(a: ArrowWords) -> CodedArrow
+    ensures { λ r. ⌜ r ≡ codedArrow (Arrow a) ⌝ }
+{
+    CodedArrow {
+        found: 1,
+        start: a.start,
+        end: a.end,
+        fewest: a.fewest,
+        most: a.most,
+    }
+}
+
+fn coded_end() -> CodedArrow
+    ensures { λ r. ⌜ r ≡ codedArrow Finished ⌝ }
+{
+    CodedArrow {
+        found: 0,
+        start: 0,
+        end: 0,
+        fewest: 0,
+        most: 0,
+    }
+}
+
+// What a chart reader of these bytes at this number hands out.
+#[no_mangle]
+pub extern "C" fn doilystrand_arrow(chart: &[u8], number: usize) -> CodedArrow
+    ensures { λ r. ⌜ r ≡ codedArrow (handed (now (chart .entry)) number) ⌝ }
+{
+    match reader::hand_out(chart, number) {
+        Handed::Arrow(a) => coded_words(a),
+        Handed::Finished => coded_end(),
+    }
 }

@@ -22,7 +22,7 @@ pub enum Part {
 
 #[derive(Clone, Debug, PartialEq, Eq)]
 pub enum Answer {
-    Check { number: u32, place: u32, marks: Vec<u8>, scratch: Vec<u32> },
+    Check { number: u32, place: u32, marks: Vec<u8>, scratch: Vec<u32>, arrows: Vec<[u16; 4]> },
     Kind { number: u32, place: u32, kind: Kind },
     Map { number: u32, place: u32 },
     Row(Part),
@@ -55,7 +55,7 @@ fn part_of(table: &[u8], part: &[u8]) -> Part {
     Part::At { offset: at - start, bytes }
 }
 
-/// The same four calls of either program, each with its own types.
+/// The same five calls of either program, each with its own types.
 macro_rules! program {
     ($name:ident) => {
         pub mod $name {
@@ -73,6 +73,18 @@ macro_rules! program {
                 Answer::Kind { number: answer.outcome.number, place: answer.outcome.place, kind }
             }
 
+            fn arrow(chart: &[u8], number: usize) -> Option<[u16; 4]> {
+                program::arrow(chart, number).map(|a| [a.start, a.end, a.fewest, a.most])
+            }
+
+            /// The chart's arrows as a reader hands them out, until it is finished, and what it still finds later.
+            fn arrows(chart: &[u8]) -> Vec<[u16; 4]> {
+                let mut read: Vec<_> = (0..).map_while(|i| arrow(chart, i)).collect();
+                let count = read.len();
+                read.extend([count, count + 1, usize::MAX].into_iter().filter_map(|i| arrow(chart, i)));
+                read
+            }
+
             fn row(tables: (&[u8], &[u8]), choice: Table, n: usize, t: usize) -> Answer {
                 let (overview, detail) = tables;
                 let (table, choice) = match choice {
@@ -88,7 +100,7 @@ macro_rules! program {
                         let (mut marks, mut scratch) = (marks.bytes(), scratch.numbers());
                         let outcome = program::check(chart, rule, &mut marks, &mut scratch);
                         let (number, place) = (outcome.number, outcome.place);
-                        Answer::Check { number, place, marks, scratch }
+                        Answer::Check { number, place, marks, scratch, arrows: arrows(chart) }
                     }
                     Case::Kind { rule } => kind_of(rule),
                     Case::Map { detail, overview, map } => {

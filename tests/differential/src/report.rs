@@ -31,9 +31,9 @@ pub fn whole(case: &Case, answers: &Both, what: Option<&str>) {
 
 fn brief(answer: &Answer) -> String {
     match answer {
-        Answer::Check { number, place, marks, scratch } => {
-            let (m, s) = (digest(marks), digest(scratch));
-            format!("number {number}, place {place}, marks {m}, scratch {s}")
+        Answer::Check { number, place, marks, scratch, arrows } => {
+            let (m, s, a) = (digest(marks), digest(scratch), digest(arrows));
+            format!("number {number}, place {place}, marks {m}, scratch {s}, arrows {a}")
         }
         other => format!("{other:?}"),
     }

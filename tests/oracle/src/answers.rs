@@ -35,3 +35,12 @@ pub enum Choice {
     Overview,
     Detail,
 }
+
+/// One arrow as a chart's bytes give it: start, end, fewest, most (65,535: no end).
+#[derive(Clone, Copy, Debug, PartialEq, Eq)]
+pub struct ArrowWords {
+    pub start: u16,
+    pub end: u16,
+    pub fewest: u16,
+    pub most: u16,
+}

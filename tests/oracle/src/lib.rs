@@ -1,4 +1,4 @@
-//! Check, kind of rule, map check and row, written from the scope paper alone.
+//! Check, kind of rule, map check, row and chart reader, written from the scope paper alone.
 //!
 //! Untils are settled by fixpoints over pairs of a state and a minute; nothing here measures a path.
 
@@ -14,6 +14,7 @@ mod loops;
 mod map_check;
 mod map_rows;
 mod members;
+mod reader;
 mod refusals;
 mod row;
 mod rule;
@@ -21,9 +22,10 @@ mod rule_rows;
 mod settle;
 mod until;
 
-pub use answers::{Choice, Kind, KindAnswer, Outcome};
+pub use answers::{ArrowWords, Choice, Kind, KindAnswer, Outcome};
 pub use check::check;
 pub use desk::{listing, refused_line, CHART_READ, RULE_READ};
 pub use kind::kind_of_rule;
 pub use map_check::map_check;
+pub use reader::arrow;
 pub use row::row;

@@ -7,5 +7,6 @@ mod items;
 mod kinds;
 mod make;
 mod map_refusals;
+mod readers;
 mod refusals;
 mod rows;
