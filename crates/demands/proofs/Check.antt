@@ -1,4 +1,4 @@
--- Check: the first demand and the second, from its promise alone.
+-- Check: its part of the first demand, and the second, from its promise alone.
 use mathlib.Core.Path.{_≡_, refl, sym, ap, subst, _∙_}
 use mathlib.Core.Logic.{_↔_, _⊎_, inl, inr, Iff·symm, Iff·trans, by-cases}
 use mathlib.Core.List.{List, [], _∷_, _++_}
@@ -6,9 +6,10 @@ use Prim.Native.Nat.{ℕ, _*_, _<_}
 use native.Mathlib.Decide.{ℕ-discrete}
 use native.Mathlib.Omega.{arith}
 use lib.ListN.{length, getD, drop, replicate, length-replicate, getD-replicate, List·getD-append}
-use Rattle.outcome.specs.Refusal.{Row, success, refusal}
-use Rattle.outcome.specs.Met.{Unmet, FirstMet}
-use Rattle.outcome.proofs.First.{success-iff, first-iff}
+use Rattle.outcome.specs.declared.Outcome.{Outcome}
+use Rattle.outcome.specs.Refusal.{success}
+use Rattle.outcome.specs.Met.{Unmet}
+use Rattle.outcome.proofs.First.{success-iff}
 use Rattle.outcome.proofs.Unmet.{unmet-append-iff}
 use Rattle.chart.specs.Bytes.{stateCount}
 use Rattle.chart.specs.Refusals.{chartTable}
@@ -17,13 +18,14 @@ use Rattle.rule.specs.Refusals.{ruleTable, ruleRefusal}
 use Rattle.loops.specs.Accepted.{AcceptedChart}
 use Rattle.loops.specs.Refusal.{loopRow, acceptedTable}
 use Rattle.loops.proofs.Accepted.{unmet-iff}
-use Rattle.checker.specs.Check.{scratchSize, checkTable, checkRefusal, marksOf}
+use Rattle.checker.specs.Check.{scratchSize, checkTable, checkRefusal, marksOf, Checked}
 use Rattle.checker.specs.Parts.{inputTable}
 use Rattle.checker.proofs.Chain.{check-numbered, input-iff, check-iff, room-iff}
 use Rattle.checker.proofs.Marks.{front-size, past-front, marks-length}
 use Rattle.checker.proofs.Promise.{cleared-admitted, accepted-marks, refused-marks, cleared-scratch, refused-scratch}
-use Rattle.demands.specs.FirstDemand.{Acceptable, FirstDemand}
+use Rattle.demands.specs.FirstDemand.{Acceptable, Unbroken}
 use Rattle.demands.specs.SecondDemand.{SecondDemand}
+use Rattle.demands.proofs.Answers.{answers}
 
 -- the meaning is a part of check's promise
 pub check-means : SecondDemand
@@ -35,7 +37,7 @@ unfolding acceptedTable
 chart-iff chart = Iff·trans (Iff·symm (unmet-append-iff (chartTable chart) (loopRow chart ∷ []))) (unmet-iff chart)
 
 -- those of the rule that it be
-rule-iff : (rule : List ℕ) → (ruleRefusal rule ≡ success) ↔ Unmet (ruleTable rule)
+pub rule-iff : (rule : List ℕ) → (ruleRefusal rule ≡ success) ↔ Unmet (ruleTable rule)
 unfolding ruleTable
 rule-iff rule = success-iff (ruleTable rule) tt
 
@@ -66,14 +68,13 @@ module _ (chart rule marks scratch : List ℕ) where
           (input-iff chart rule marks scratch .1 ((charts .0, rule-iff rule .0 (a .rule-accepted)), room), charts .1)
 
 -- The answer is the table's first row that is met, and what is left is as the promise says, case by case.
-pub check-unbroken : FirstDemand
+pub check-unbroken :
+    (chart rule marks scratch : List ℕ) (r : Outcome) (newMarks newScratch : List ℕ) →
+    Checked chart rule marks scratch r newMarks newScratch →
+    Unbroken chart rule marks scratch r newMarks newScratch
 check-unbroken chart rule marks scratch r newMarks newScratch c =
     record {
-      refuses = λ n p l.
-          subst (λ o. (o ≡ refusal n p) ↔ FirstMet table n p) (sym (c .answer)) (first-iff table n p l);
-      accepts =
-          subst (λ o. (o ≡ success) ↔ Acceptable chart rule marks scratch) (sym (c .answer))
-          (check-accepts chart rule marks scratch);
+      answer = answers (checkTable chart rule marks scratch) (c .answer) (check-accepts chart rule marks scratch);
       sizes = (marks-size, scratch-size);
       later-kept = λ j l.
           by-cases (ℕ-discrete (r .number) 0)
@@ -87,9 +88,6 @@ check-unbroken chart rule marks scratch r newMarks newScratch c =
       scratch-kept = refused-scratch c;
     }
   where
-    table : List Row
-    table = checkTable chart rule marks scratch
-
     kn : ℕ
     kn = nodeCount rule * stateCount chart
 

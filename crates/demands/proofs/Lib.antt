@@ -1,3 +1,6 @@
+pub mod Answers
 pub mod Check
 pub mod MapCheck
 pub mod DetailRule
+pub mod FirstDemand
+pub mod Answerable

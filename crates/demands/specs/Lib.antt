@@ -1,3 +1,5 @@
+pub mod Answers
 pub mod FirstDemand
 pub mod SecondDemand
 pub mod DetailRule
+pub mod Answerable

@@ -19,7 +19,7 @@ const SCRATCH: usize = 1024;
 const TEXT: usize = 16660;
 
 // The first bytes of a file, as many as there is room for. One that can't be opened counts as empty.
-fn read(name: &[u8], space: &mut [u8]) -> usize
+pub fn read(name: &[u8], space: &mut [u8]) -> usize
     ensures { λ r. ⌜ Counts r (now (space .exit)) ⌝ }
 {
     let file = os::open_read(name);

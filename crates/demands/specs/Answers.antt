@@ -1,0 +1,15 @@
+-- What a call answers that refuses by a table. The quoted sentences are of 01, "Refused with number and place".
+use mathlib.Core.Path.{_≡_}
+use mathlib.Core.Logic.{_↔_}
+use mathlib.Core.List.{List}
+use Prim.Native.Nat.{ℕ, _<_}
+use Rattle.outcome.specs.declared.Outcome.{Outcome}
+use Rattle.outcome.specs.Refusal.{Row, success, refusal}
+use Rattle.outcome.specs.Met.{FirstMet}
+
+-- the answer r, by the rows of this table, where what is acceptable is this
+pub record Answers (table : List Row) (acceptable : Type 0) (r : Outcome) : Type 0 where
+  -- "each number is returned if and only if its condition is met and none tested before it is"
+  pub refuses : (n p : ℕ) → 0 < n → (r ≡ refusal n p) ↔ FirstMet table n p
+  -- "Success is number 0, place 0."
+  pub accepts : (r ≡ success) ↔ acceptable
