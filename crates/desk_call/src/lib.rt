@@ -1,11 +1,12 @@
 // The desk program: two files in, one text out.
 ghost use Prim.Native.Nat.{_+_, _*_, _≤_};
-ghost use lib.ListN.{length};
+ghost use lib.ListN.{length, take};
 ghost use Rattle.io.specs.Counts.{Counts};
 ghost use Rattle.listing.specs.Text.{Shown};
+ghost use Rattle.desk_call.specs.Files.{Files};
 ghost use Rattle.desk_call.specs.Printed.{printed};
 
-// One byte more than the longest chart and the longest rule that are accepted.
+// How many bytes are read of a chart's file and of a rule's.
 const CHART: usize = 16906;
 
 const RULE: usize = 520;
@@ -31,7 +32,7 @@ pub fn read(name: &[u8], space: &mut [u8]) -> usize
     count
 }
 
-// The text that is printed, put into out.
+// The text that is printed of a chart and a rule, put into out.
 fn report(chart: &[u8], rule: &[u8], out: &mut [u8]) -> usize
     requires { ⌜ 20 + 64 * 260 ≤ length (now out) ⌝ }
     ensures { λ r. ⌜ Shown (printed (now (chart .entry)) (now (rule .entry))) r (now (out .entry)) (now (out .exit)) ⌝ }
@@ -47,6 +48,15 @@ fn report(chart: &[u8], rule: &[u8], out: &mut [u8]) -> usize
     listing::list(n, k, &marks, out)
 }
 
+// The same of two files, of which i bytes of the chart and j of the rule were read.
+fn report_files(chart: &[u8], i: usize, rule: &[u8], j: usize, out: &mut [u8]) -> usize
+    requires { ⌜ Files (now chart) i (now rule) j × (20 + 64 * 260 ≤ length (now out)) ⌝ }
+    ensures { λ r. ⌜ Shown (printed (take i (now (chart .entry))) (take j (now (rule .entry)))) r
+        (now (out .entry)) (now (out .exit)) ⌝ }
+{
+    report(&chart[..i], &rule[..j], out)
+}
+
 // Reads desk.cht and desk.rul, and prints the report. A file longer than any accepted is read for one byte more than
 // the longest, and so refused.
 pub fn run() {
@@ -55,6 +65,6 @@ pub fn run() {
     let chart_size = read(b"desk.cht", &mut chart);
     let rule_size = read(b"desk.rul", &mut rule);
     let mut text = [0; TEXT];
-    let size = report(&chart[..chart_size], &rule[..rule_size], &mut text);
+    let size = report_files(&chart, chart_size, &rule, rule_size, &mut text);
     io::write_all(libc::STDOUT_FILENO, &text[..size]);
 }

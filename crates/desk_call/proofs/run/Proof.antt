@@ -1,19 +1,18 @@
--- The counts lie in the buffers.
+-- The buffers have just the room that is asked for, and the counts lie in them.
 use borrow.Author.Needs.{needs}
 use Rattle.listing.proofs.Append.{shown-counts}
 use Rattle.desk_call.proofs.run.Statement.{statement}
 use Rattle.desk_call.proofs.run.Tie as tie
 
 array-share-prefix-text : tie.Need-array-share-prefix-text
-array-share-prefix-text c = shown-counts (c .before .report .ensures) .0
+array-share-prefix-text c = shown-counts (c .before .report-files .ensures) .0
 
 slice-aggregate-write-all : tie.Need-slice-aggregate-write-all
-slice-aggregate-write-all c = shown-counts (c .before .before .report .ensures) .1
+slice-aggregate-write-all c = shown-counts (c .before .before .report-files .ensures) .1
 
 pub run-spec : {M : Type 1} → statement M
 run-spec =
     tie.close
     (tie.spec (λ c. search needs) (λ c. search needs) (λ c κs. search needs) (λ c. search needs) (λ c. search needs)
-    (λ c κs. search needs) (λ c. search needs) (λ c. search needs) (λ c. search needs) (λ c. search needs)
-    (λ c. search needs) (λ c κs. search needs) array-share-prefix-text slice-aggregate-write-all
-    (λ c κs. search needs) (λ c. search needs))
+    (λ c κs. search needs) (λ c. search needs) (λ c. search needs) (λ c. search needs) (λ c κs. search needs)
+    array-share-prefix-text slice-aggregate-write-all (λ c κs. search needs) (λ c. search needs))
