@@ -18,6 +18,23 @@
 extern "C" {
 #endif
 
+/* The most states and arrows of a chart, and nodes of a rule. */
+#define DOILYSTRAND_MAX_STATES 256
+#define DOILYSTRAND_MAX_ARROWS 2048
+#define DOILYSTRAND_MAX_NODES 64
+
+/* Bytes of the longest chart, rule and map. */
+#define DOILYSTRAND_MAX_CHART 16905
+#define DOILYSTRAND_MAX_RULE 519
+#define DOILYSTRAND_MAX_MAP 519
+
+/* Bytes of marks and numbers of scratch that are enough for every check. */
+#define DOILYSTRAND_MAX_MARKS 16384
+#define DOILYSTRAND_MAX_SCRATCH 1024
+
+/* The most of an arrow whose slot has no end. */
+#define DOILYSTRAND_NO_END 65535
+
 /* Number and place of a refusal; both 0 on success. */
 typedef struct doilystrand_outcome {
     uint32_t number;
@@ -44,7 +61,7 @@ typedef struct doilystrand_place {
     size_t size;
 } doilystrand_place;
 
-/* What a chart reader hands out: found is 1 with an arrow's words (a most of 65,535 is no end), 0 if it is finished. */
+/* What a chart reader hands out: found is 1 with an arrow's words, 0 with zeros if it is finished. */
 typedef struct doilystrand_arrow_words {
     uint32_t found;
     size_t start;
@@ -55,8 +72,8 @@ typedef struct doilystrand_arrow_words {
 
 /*
  * Marks every node of the rule at every state of the chart: byte t * n + s of marks is 1 if node t holds at state s,
- * else 0. It wants k * n bytes of marks and 4n numbers of scratch. After acceptance and after refusal 19 the first 4n
- * numbers are 0; everything else is left as lent.
+ * else 0. It wants k * n bytes of marks and 4n numbers of scratch, k and n being bytes 5 to 6 of rule and chart. After
+ * acceptance and after refusal 19 the first 4n numbers are 0; everything else is left as lent.
  */
 doilystrand_outcome doilystrand_check(const uint8_t *chart, size_t chart_size,
                                       const uint8_t *rule, size_t rule_size,

@@ -3,8 +3,19 @@
 use crate::bytes::{self, Arrow, NO_END};
 use crate::random::Random;
 
-pub const NAMES: [&str; 10] =
-    ["random", "waiting", "chain", "chain-loop", "chain-shuffled", "zigzag", "zigzag-loop", "grid", "regular", "dense"];
+pub const NAMES: [&str; 11] = [
+    "random",
+    "waiting",
+    "chain",
+    "chain-loop",
+    "chain-shuffled",
+    "zigzag",
+    "zigzag-loop",
+    "odd-even",
+    "grid",
+    "regular",
+    "dense",
+];
 
 /// The chart of the family with n states and m arrows, m at least n; no such family gives none.
 pub fn chart(name: &str, n: usize, m: usize) -> Option<Vec<u8>> {
@@ -17,13 +28,14 @@ pub fn chart(name: &str, n: usize, m: usize) -> Option<Vec<u8>> {
         "chain-shuffled" => shuffled(chain(n, m, 0), &mut random),
         "zigzag" => zigzag(n, chain(n, m, n - 1)),
         "zigzag-loop" => zigzag(n, chain(n, m, 0)),
+        "odd-even" => odd_even(chain(n, m, 0)),
         "grid" => grid(n, m, &mut random),
         "regular" => regular(n, m, &mut random),
         // As many states as give every ordered pair about one arrow.
         "dense" => return Some(dense(m, &mut random)),
         _ => return None,
     };
-    let one_way = name.starts_with("chain") || name.starts_with("zigzag");
+    let one_way = name.starts_with("chain") || name.starts_with("zigzag") || name == "odd-even";
     let labels = if one_way { end_labels(n) } else { spread_labels(n, &mut random) };
     Some(bytes::chart(&labels, &arrows))
 }
@@ -91,6 +103,16 @@ fn zigzag(n: usize, mut arrows: Vec<Arrow>) -> Vec<Arrow> {
             n - 1 - s / 2
         }
     });
+    arrows
+}
+
+/// A minute from each state to the next, those of odd states listed first: a sweep in either direction settles two more
+/// states only, and on a loop each number rises by two minutes a sweep until the loop is found.
+fn odd_even(mut arrows: Vec<Arrow>) -> Vec<Arrow> {
+    for arrow in &mut arrows {
+        (arrow.fewest, arrow.most) = (1, 1);
+    }
+    arrows.sort_by_key(|arrow| arrow.start % 2 == 0);
     arrows
 }
 

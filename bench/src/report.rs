@@ -94,11 +94,11 @@ fn map_checks(plan: &Plan) -> Result<(), String> {
         let input = maps::input(name).ok_or(format!("no map input {name}"))?;
         let call = || doilystrand::map_check(black_box(&input.detail), &input.overview, &input.map);
         let outcome = call();
-        if (outcome.number, outcome.place) != (0, 0) {
-            return Err(format!("map check refuses {name}: {outcome:?}"));
+        if !outcome.is_accepted() {
+            return Err(format!("map check on {name}: {outcome}"));
         }
         let times = alone(plan, || {
-            black_box(call());
+            let _ = black_box(call());
         });
         println!("| {name} | {:.1} | {:.1} |", times.median, times.best);
     }

@@ -3,7 +3,7 @@
 
 use crate::bytes::{self, Node};
 
-pub const NAMES: [&str; 6] = ["mixed", "e-most", "e-least", "a-most", "a-least", "far"];
+pub const NAMES: [&str; 7] = ["mixed", "e-most", "e-least", "a-most", "a-least", "far", "e-far"];
 
 const E: u8 = 5;
 const A: u8 = 6;
@@ -22,6 +22,7 @@ pub fn rule(name: &str) -> Option<Vec<u8>> {
         "a-most" => &[(A, AT_MOST)],
         "a-least" => &[(A, AT_LEAST)],
         "far" => return Some(bytes::rule(&far())),
+        "e-far" => return Some(bytes::rule(&e_far())),
         _ => return None,
     };
     let mut tree = Tree { nodes: Vec::new(), untils, count: 0 };
@@ -81,5 +82,18 @@ fn far() -> Vec<Node> {
             nodes.push(label(1));
         }
     }
+    nodes
+}
+
+/// Each until is E(the one before it until L1, at least 65,535), and the last node the one not: on a closed chain, where
+/// L1 stands at one state, every number rises to the greatest.
+fn e_far() -> Vec<Node> {
+    let mut nodes = vec![Node { operation: 0, kind: 0, a: 0, b: 0, c: 0 }];
+    for _ in 0..31 {
+        let before = nodes.len() as u16 - 1;
+        nodes.push(label(1));
+        nodes.push(Node { operation: E, kind: AT_LEAST, a: before, b: before + 1, c: u16::MAX });
+    }
+    nodes.push(Node { operation: 2, kind: 0, a: nodes.len() as u16 - 1, b: 0, c: 0 });
     nodes
 }

@@ -4,6 +4,16 @@
 #include <stdio.h>
 #include <string.h>
 
+_Static_assert(DOILYSTRAND_MAX_STATES == 256, "most states");
+_Static_assert(DOILYSTRAND_MAX_ARROWS == 2048, "most arrows");
+_Static_assert(DOILYSTRAND_MAX_NODES == 64, "most nodes");
+_Static_assert(DOILYSTRAND_MAX_CHART == 9 + 2 * 256 + 8 * 2048, "longest chart");
+_Static_assert(DOILYSTRAND_MAX_RULE == 7 + 8 * 64, "longest rule");
+_Static_assert(DOILYSTRAND_MAX_MAP == 7 + 2 * 256, "longest map");
+_Static_assert(DOILYSTRAND_MAX_MARKS == 64 * 256, "largest marks table");
+_Static_assert(DOILYSTRAND_MAX_SCRATCH == 4 * 256, "largest scratch");
+_Static_assert(DOILYSTRAND_NO_END == UINT16_MAX, "no end");
+
 static int failures;
 
 static void expect(bool held, const char *what) {
@@ -84,11 +94,58 @@ static void arrows_are_handed_out(void) {
     doilystrand_arrow_words a = doilystrand_arrow(short_chart, size, 0);
     expect(a.found == 1 && a.start == 0 && a.end == 1 && a.fewest == 5 && a.most == 10, "arrow 0 of Short");
     a = doilystrand_arrow(short_chart, size, 2);
-    expect(a.found == 1 && a.start == 2 && a.end == 0 && a.fewest == 20 && a.most == 65535, "arrow 2 of Short");
+    expect(a.found == 1 && a.start == 2 && a.end == 0 && a.fewest == 20 && a.most == DOILYSTRAND_NO_END,
+           "arrow 2 of Short");
     expect(doilystrand_arrow(short_chart, size, 3).found == 0, "Short has three arrows");
     expect(doilystrand_arrow(short_chart, size, SIZE_MAX).found == 0, "the greatest number");
     expect(doilystrand_arrow(short_chart, size - 1, 0).found == 0, "a cut chart is read");
     expect(doilystrand_arrow(NULL, 0, 0).found == 0, "an empty chart is read");
+}
+
+static uint8_t *put(uint8_t *at, unsigned word) {
+    at[0] = (uint8_t)(word >> 8);
+    at[1] = (uint8_t)word;
+    return at + 2;
+}
+
+/* Version and length; the words of the rest follow. */
+static uint8_t *head(uint8_t *bytes, unsigned length) {
+    bytes[0] = 1;
+    return put(put(bytes + 1, 0), length);
+}
+
+static uint8_t largest_chart[DOILYSTRAND_MAX_CHART];
+static uint8_t largest_rule[DOILYSTRAND_MAX_RULE];
+static uint8_t largest_map[DOILYSTRAND_MAX_MAP];
+
+/* A ring of all states, each arrow 8 times; true and 63 times not; each state under itself. */
+static void make_the_largest(void) {
+    uint8_t *at = put(put(head(largest_chart, sizeof largest_chart), 256), 2048) + 2 * 256;
+    for (unsigned i = 0; i < 2048; i++) at = put(put(put(put(at, i % 256), (i + 1) % 256), 1), 1);
+    expect(at == largest_chart + sizeof largest_chart, "the largest chart's size");
+    at = put(head(largest_rule, sizeof largest_rule), 64) + 8;
+    for (unsigned i = 1; i < 64; i++) at = put(put(at, 0x200), i - 1) + 4;
+    expect(at == largest_rule + sizeof largest_rule, "the largest rule's size");
+    at = put(head(largest_map, sizeof largest_map), 256);
+    for (unsigned i = 0; i < 256; i++) at = put(at, i);
+    expect(at == largest_map + sizeof largest_map, "the largest map's size");
+}
+
+static doilystrand_outcome check_the_largest(size_t marks_size, size_t scratch_size) {
+    static uint8_t marks[DOILYSTRAND_MAX_MARKS];
+    static uint32_t scratch[DOILYSTRAND_MAX_SCRATCH];
+    return doilystrand_check(largest_chart, sizeof largest_chart, largest_rule, sizeof largest_rule,
+                             marks, marks_size, scratch, scratch_size);
+}
+
+static void the_largest_is_taken(void) {
+    size_t size = sizeof largest_chart, marks = DOILYSTRAND_MAX_MARKS, scratch = DOILYSTRAND_MAX_SCRATCH;
+    make_the_largest();
+    expect(is(check_the_largest(marks, scratch), 0, 0), "check refuses the largest");
+    expect(is(check_the_largest(marks - 1, scratch), 17, 0), "the largest manages with fewer marks");
+    expect(is(check_the_largest(marks, scratch - 1), 18, 0), "the largest manages with less scratch");
+    expect(is(doilystrand_map_check(largest_chart, size, largest_chart, size, largest_map, sizeof largest_map), 0, 0),
+           "map check refuses the largest");
 }
 
 int main(void) {
@@ -98,6 +155,7 @@ int main(void) {
     maps_are_checked();
     rows_are_found();
     arrows_are_handed_out();
+    the_largest_is_taken();
     if (failures == 0) printf("calls: from C as promised\n");
     return failures != 0;
 }

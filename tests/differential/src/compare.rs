@@ -22,7 +22,7 @@ pub enum Part {
 
 #[derive(Clone, Debug, PartialEq, Eq)]
 pub enum Answer {
-    Check { number: u32, place: u32, marks: Vec<u8>, scratch: Vec<u32>, arrows: Vec<[u16; 4]> },
+    Check { number: u32, place: u32, marks: Vec<u8>, scratch: Vec<u32>, arrows: Vec<[u64; 4]> },
     Kind { number: u32, place: u32, kind: Kind },
     Map { number: u32, place: u32 },
     Row(Part),
@@ -73,12 +73,12 @@ macro_rules! program {
                 Answer::Kind { number: answer.outcome.number, place: answer.outcome.place, kind }
             }
 
-            fn arrow(chart: &[u8], number: usize) -> Option<[u16; 4]> {
-                program::arrow(chart, number).map(|a| [a.start, a.end, a.fewest, a.most])
+            fn arrow(chart: &[u8], number: usize) -> Option<[u64; 4]> {
+                program::arrow(chart, number).map(|a| [a.start as u64, a.end as u64, a.fewest as u64, a.most as u64])
             }
 
             /// The chart's arrows as a reader hands them out, until it is finished, and what it still finds later.
-            fn arrows(chart: &[u8]) -> Vec<[u16; 4]> {
+            fn arrows(chart: &[u8]) -> Vec<[u64; 4]> {
                 let mut read: Vec<_> = (0..).map_while(|i| arrow(chart, i)).collect();
                 let count = read.len();
                 read.extend([count, count + 1, usize::MAX].into_iter().filter_map(|i| arrow(chart, i)));

@@ -10,6 +10,9 @@ use crate::rows;
 use crate::rule;
 use crate::trees;
 
+/// How many cases in 100 are checks.
+const CHECKS: usize = 60;
+
 /// A lent buffer that needs `exact` places: mostly enough of them, one too short at times.
 fn lent(rng: &mut Rng, exact: usize) -> Lent {
     let length = match rng.below(40) {
@@ -81,12 +84,25 @@ fn kind(rng: &mut Rng) -> Case {
     Case::Kind { rule }
 }
 
+/// One of the checks, by a share below `CHECKS`.
+fn check_of(rng: &mut Rng, share: usize) -> Case {
+    match share {
+        0..=1 => great_check(rng),
+        2..=41 => whole_check(rng),
+        _ => damaged_check(rng),
+    }
+}
+
+/// A check, as often of each sort as among the cases of all calls.
+pub fn check(rng: &mut Rng) -> Case {
+    let share = rng.below(CHECKS);
+    check_of(rng, share)
+}
+
 pub fn random(seed: u64, number: u64) -> Case {
     let mut rng = Rng::of_case(seed, number);
     match rng.below(100) {
-        0..=1 => great_check(&mut rng),
-        2..=41 => whole_check(&mut rng),
-        42..=59 => damaged_check(&mut rng),
+        share @ 0..CHECKS => check_of(&mut rng, share),
         60..=69 => kind(&mut rng),
         70..=91 => maps::random(&mut rng),
         _ => rows::random(&mut rng),

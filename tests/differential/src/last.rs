@@ -11,7 +11,7 @@ const VARIABLE: &str = "DIFFERENTIAL_LAST";
 const WIDTH: usize = 56;
 
 /// Which case, as the options that run it alone.
-#[derive(Clone, Copy, Debug)]
+#[derive(Clone, Copy, Debug, PartialEq, Eq)]
 pub enum Which {
     Named(u64),
     Random { seed: u64, number: u64 },

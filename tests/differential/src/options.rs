@@ -7,16 +7,53 @@ use crate::replay;
 pub const USAGE: &str = "usage: differential [--seed S] [--long [COUNT]]
        differential [--seed S] --case I
        differential --named I
-       differential --replay CASE";
+       differential --replay CASE
+       differential --programs DIR [--seed S] [--long [COUNT]]
+       differential --programs DIR [--seed S] --case I
+       differential --programs DIR --named I";
 
 const SEED: u64 = 20_011_115;
-const USUAL: u64 = 400_000;
-const LONG: u64 = 5_000_000;
 
+/// How many random ones: cases of the library, then pairs of files for the programs.
+struct Counts {
+    usual: u64,
+    long: u64,
+}
+
+const CASES: Counts = Counts { usual: 400_000, long: 5_000_000 };
+const PAIRS: Counts = Counts { usual: 300, long: 10_000 };
+
+#[derive(Debug, PartialEq, Eq)]
 pub enum Task {
     Run { seed: u64, count: u64 },
     One(Which),
     Replay(Case),
+    Programs { folder: String, seed: u64, count: u64 },
+    Pair { folder: String, which: Which },
+}
+
+#[derive(Default)]
+struct Given {
+    seed: Option<u64>,
+    case: Option<u64>,
+    named: Option<u64>,
+    long: bool,
+    count: Option<u64>,
+    folder: Option<String>,
+}
+
+impl Given {
+    fn task(self) -> Task {
+        let seed = self.seed.unwrap_or(SEED);
+        let which = self.named.map(Which::Named).or(self.case.map(|number| Which::Random { seed, number }));
+        let count = |of: Counts| self.count.unwrap_or(if self.long { of.long } else { of.usual });
+        match (self.folder, which) {
+            (None, None) => Task::Run { seed, count: count(CASES) },
+            (None, Some(which)) => Task::One(which),
+            (Some(folder), None) => Task::Programs { folder, seed, count: count(PAIRS) },
+            (Some(folder), Some(which)) => Task::Pair { folder, which },
+        }
+    }
 }
 
 fn number(text: Option<&String>, option: &str) -> Result<u64, String> {
@@ -25,16 +62,18 @@ fn number(text: Option<&String>, option: &str) -> Result<u64, String> {
 }
 
 pub fn read(arguments: &[String]) -> Result<Task, String> {
-    let (mut seed, mut count, mut case, mut named) = (SEED, USUAL, None, None);
+    let mut given = Given::default();
     let mut rest = arguments.iter().peekable();
     while let Some(option) = rest.next() {
         match option.as_str() {
-            "--seed" => seed = number(rest.next(), option)?,
-            "--case" => case = Some(number(rest.next(), option)?),
-            "--named" => named = Some(number(rest.next(), option)?),
+            "--seed" => given.seed = Some(number(rest.next(), option)?),
+            "--case" => given.case = Some(number(rest.next(), option)?),
+            "--named" => given.named = Some(number(rest.next(), option)?),
+            "--programs" => given.folder = Some(rest.next().ok_or("--programs needs a folder")?.clone()),
             "--long" => {
-                let given = rest.next_if(|next| !next.starts_with("--"));
-                count = if given.is_some() { number(given, option)? } else { LONG };
+                given.long = true;
+                let count = rest.next_if(|next| !next.starts_with("--"));
+                given.count = count.map(|count| number(Some(count), option)).transpose()?;
             }
             "--replay" => {
                 // The line may come as one argument or as its words.
@@ -44,6 +83,43 @@ pub fn read(arguments: &[String]) -> Result<Task, String> {
             other => return Err(format!("unknown option {other}")),
         }
     }
-    let which = named.map(Which::Named).or(case.map(|number| Which::Random { seed, number }));
-    Ok(which.map_or(Task::Run { seed, count }, Task::One))
+    Ok(given.task())
+}
+
+#[cfg(test)]
+mod tests {
+    use super::{read, Task, SEED};
+    use crate::last::Which;
+
+    fn task(line: &str) -> Result<Task, String> {
+        read(&line.split_whitespace().map(String::from).collect::<Vec<_>>())
+    }
+
+    #[test]
+    fn the_library() {
+        assert_eq!(task(""), Ok(Task::Run { seed: SEED, count: 400_000 }));
+        assert_eq!(task("--long"), Ok(Task::Run { seed: SEED, count: 5_000_000 }));
+        assert_eq!(task("--long 1,000 --seed 3"), Ok(Task::Run { seed: 3, count: 1_000 }));
+        assert_eq!(task("--case 7 --seed 3"), Ok(Task::One(Which::Random { seed: 3, number: 7 })));
+        assert_eq!(task("--named 7"), Ok(Task::One(Which::Named(7))));
+    }
+
+    #[test]
+    fn the_programs() {
+        let folder = || "here".to_string();
+        assert_eq!(task("--programs here"), Ok(Task::Programs { folder: folder(), seed: SEED, count: 300 }));
+        let long = task("--seed 3 --programs here --long");
+        assert_eq!(long, Ok(Task::Programs { folder: folder(), seed: 3, count: 10_000 }));
+        let which = Which::Random { seed: SEED, number: 7 };
+        assert_eq!(task("--programs here --case 7"), Ok(Task::Pair { folder: folder(), which }));
+        let which = Which::Named(7);
+        assert_eq!(task("--named 7 --programs here"), Ok(Task::Pair { folder: folder(), which }));
+    }
+
+    #[test]
+    fn other_options_are_refused() {
+        for line in ["--seed", "--case x", "--long x", "--programs", "here", "--replay kind"] {
+            assert!(task(line).is_err(), "{line}");
+        }
+    }
 }

@@ -2,7 +2,7 @@
 
 use crate::case::{Case, Lent, Table};
 
-fn hex(bytes: &[u8]) -> String {
+pub fn hex(bytes: &[u8]) -> String {
     bytes.iter().map(|byte| format!("{byte:02x}")).collect()
 }
 

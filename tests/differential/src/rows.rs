@@ -25,7 +25,7 @@ fn huge(rng: &mut Rng) -> usize {
 }
 
 /// A row that ends beside the end of the table.
-fn beside_the_end(rng: &mut Rng, length: usize) -> (usize, usize) {
+pub fn beside_the_end(rng: &mut Rng, length: usize) -> (usize, usize) {
     let n = rng.within(1, 8);
     let rows = length / n;
     (n, (rows + rng.below(3)).saturating_sub(1))

@@ -16,7 +16,8 @@ use crate::table;
 use crate::table_maps;
 use crate::table_rules;
 
-const SHOWN: u64 = 5;
+/// The run stops after so many differences.
+pub const SHOWN: u64 = 5;
 
 /// The large ones come last, since they take longest.
 fn named() -> Vec<Named> {

@@ -34,7 +34,7 @@ fn rule_frame(list: &mut List) {
 }
 
 /// A chain of k nodes: true, then not after not.
-fn nots(k: usize) -> Vec<Node> {
+pub fn nots(k: usize) -> Vec<Node> {
     let mut nodes = just_true();
     nodes.extend((1..k).map(|t| plain(NOT, t - 1, 0)));
     nodes

@@ -27,8 +27,17 @@ pub fn label_word(chart: &[u8], state: usize) -> u16 {
 
 /// The arrows in the chart's order.
 pub fn arrows(chart: &[u8]) -> impl Iterator<Item = Arrow> + '_ {
-    let first = 9 + 2 * state_count(chart);
+    let first = first_arrow(chart);
     (0..arrow_count(chart)).map(move |i| arrow_at(chart, first + 8 * i))
+}
+
+/// The arrow of that number; None past the last one.
+pub fn arrow(chart: &[u8], number: usize) -> Option<Arrow> {
+    (number < arrow_count(chart)).then(|| arrow_at(chart, first_arrow(chart) + 8 * number))
+}
+
+fn first_arrow(chart: &[u8]) -> usize {
+    9 + 2 * state_count(chart)
 }
 
 fn arrow_at(chart: &[u8], at: usize) -> Arrow {

@@ -4,6 +4,7 @@
 
 mod answers;
 mod bytes;
+mod calls;
 mod chart;
 mod chart_rows;
 mod check;
@@ -23,9 +24,10 @@ mod settle;
 mod until;
 
 pub use answers::{ArrowWords, Choice, Kind, KindAnswer, Outcome};
+pub use calls::{calls_text, ASK_READ};
 pub use check::check;
 pub use desk::{listing, refused_line, CHART_READ, RULE_READ};
 pub use kind::kind_of_rule;
 pub use map_check::map_check;
-pub use reader::arrow;
+pub use reader::{arrow, Reader};
 pub use row::row;

@@ -1,12 +1,13 @@
 //! The calls from a command line.
 
-use oracle::{kind_of_rule, listing, map_check, refused_line, Kind, CHART_READ, RULE_READ};
+use oracle::{calls_text, kind_of_rule, listing, map_check, refused_line, Kind, ASK_READ, CHART_READ, RULE_READ};
 use std::ffi::{OsStr, OsString};
 use std::fs::File;
 use std::io::{Read, Write};
 use std::process::ExitCode;
 
-const USAGE: &str = "usage: oracle check CHART RULE | oracle kind RULE | oracle map DETAIL OVERVIEW MAP";
+const USAGE: &str = "usage: oracle check CHART RULE | oracle kind RULE | oracle map DETAIL OVERVIEW MAP
+       oracle calls CHART RULE ASK";
 
 fn main() -> ExitCode {
     let words: Vec<OsString> = std::env::args_os().skip(1).collect();
@@ -26,6 +27,9 @@ fn answer(words: &[OsString]) -> Option<String> {
         ("check", [chart, rule]) => Some(listing(&read(chart, CHART_READ), &read(rule, RULE_READ))),
         ("kind", [rule]) => Some(kind_line(&whole(rule))),
         ("map", [detail, overview, map]) => Some(map_line(&whole(detail), &whole(overview), &whole(map))),
+        ("calls", [chart, rule, ask]) => {
+            Some(calls_text(&read(chart, CHART_READ), &read(rule, RULE_READ), &read(ask, ASK_READ)))
+        }
         _ => None,
     }
 }
@@ -51,7 +55,7 @@ fn map_line(detail: &[u8], overview: &[u8], map: &[u8]) -> String {
     }
 }
 
-/// Only the desk program's own reading has a bound.
+/// Only the reading of the two programs has a bound.
 fn whole(path: &OsStr) -> Vec<u8> {
     read(path, usize::MAX)
 }

@@ -1,7 +1,7 @@
 //! Every call takes any input.
 
 use crate::make::{map, rule, short, undo, Numbers, TRUE};
-use oracle::{arrow, check, kind_of_rule, listing, map_check};
+use oracle::{arrow, calls_text, check, kind_of_rule, listing, map_check};
 
 /// Some bytes replaced, then cut or lengthened now and then.
 fn damaged(numbers: &mut Numbers, mut bytes: Vec<u8>) -> Vec<u8> {
@@ -27,6 +27,7 @@ fn damaged_bytes() {
         kind_of_rule(&rule);
         map_check(&chart, &overview, &map);
         listing(&chart, &rule);
+        calls_text(&chart, &rule, &map);
         arrow(&chart, numbers.below(5) as usize);
     }
 }

@@ -2,6 +2,7 @@
 
 mod any_bytes;
 mod buffers;
+mod calls;
 mod durations;
 mod items;
 mod kinds;

@@ -1,7 +1,7 @@
 //! Chart reader.
 
 use crate::make::{chart, short, ArrowFields, NO_END};
-use oracle::{arrow, map_check};
+use oracle::{arrow, map_check, Reader};
 
 /// Start, end, fewest, most; None is finished.
 fn fields(chart: &[u8], number: usize) -> Option<ArrowFields> {
@@ -16,6 +16,28 @@ fn in_order_then_finished() {
     for number in [3, 4, usize::MAX / 8, usize::MAX / 8 + 1, usize::MAX - 1, usize::MAX] {
         assert_eq!(fields(&short(), number), None, "{number}");
     }
+}
+
+/// One reader, from a number on.
+#[test]
+fn the_number_moves_until_finished() {
+    let chart = short();
+    let mut reader = Reader::new(&chart, 1);
+    for number in [1, 2] {
+        assert_eq!((reader.number(), reader.peek()), (number, arrow(&chart, number)));
+        assert_eq!((reader.number(), reader.next()), (number, arrow(&chart, number)));
+    }
+    for _ in 0..2 {
+        assert_eq!((reader.number(), reader.peek(), reader.next()), (3, None, None));
+    }
+    let mut beyond = Reader::new(&chart, usize::MAX);
+    assert_eq!((beyond.next(), beyond.number()), (None, usize::MAX));
+}
+
+#[test]
+fn over_other_bytes_the_number_stays() {
+    let mut reader = Reader::new(&[1, 0, 0], 1);
+    assert_eq!((reader.peek(), reader.next(), reader.number()), (None, None, 1));
 }
 
 /// One chart for each of the numbers 1 to 9.

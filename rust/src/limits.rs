@@ -1,0 +1,68 @@
+//! The largest that is accepted, and the buffers that are enough for it. `include/doilystrand.h` has the same numbers.
+
+/// The most states of a chart.
+pub const MAX_STATES: usize = 256;
+/// The most arrows of a chart.
+pub const MAX_ARROWS: usize = 2_048;
+/// The most nodes of a rule.
+pub const MAX_NODES: usize = 64;
+
+/// Bytes of the longest chart.
+pub const MAX_CHART: usize = 9 + 2 * MAX_STATES + 8 * MAX_ARROWS;
+/// Bytes of the longest rule.
+pub const MAX_RULE: usize = 7 + 8 * MAX_NODES;
+/// Bytes of the longest map.
+pub const MAX_MAP: usize = 7 + 2 * MAX_STATES;
+
+/// Bytes of marks that are enough for every check.
+pub const MAX_MARKS: usize = MAX_NODES * MAX_STATES;
+/// Numbers of scratch that are enough for every check.
+pub const MAX_SCRATCH: usize = 4 * MAX_STATES;
+
+/// The most of an arrow whose slot has no end.
+pub const NO_END: u32 = 65_535;
+
+#[cfg(test)]
+mod tests {
+    use super::*;
+    use crate::samples;
+    use crate::{check, map_check};
+
+    fn defined(line: &str) -> Option<(&str, usize)> {
+        let (name, value) = line.strip_prefix("#define DOILYSTRAND_")?.split_once(' ')?;
+        Some((name, value.parse().expect(line)))
+    }
+
+    #[test]
+    fn the_header_has_the_same_numbers() {
+        let header: Vec<_> = include_str!("../../include/doilystrand.h").lines().filter_map(defined).collect();
+        let ours = [
+            ("MAX_STATES", MAX_STATES),
+            ("MAX_ARROWS", MAX_ARROWS),
+            ("MAX_NODES", MAX_NODES),
+            ("MAX_CHART", MAX_CHART),
+            ("MAX_RULE", MAX_RULE),
+            ("MAX_MAP", MAX_MAP),
+            ("MAX_MARKS", MAX_MARKS),
+            ("MAX_SCRATCH", MAX_SCRATCH),
+            ("NO_END", NO_END as usize),
+        ];
+        assert_eq!(header, ours);
+    }
+
+    #[test]
+    fn the_largest_is_accepted() {
+        let (chart, rule, map) = (samples::largest_chart(), samples::largest_rule(), samples::largest_map());
+        assert_eq!((chart.len(), rule.len(), map.len()), (MAX_CHART, MAX_RULE, MAX_MAP));
+        assert!(check(&chart, &rule, &mut [0; MAX_MARKS], &mut [0; MAX_SCRATCH]).is_accepted());
+        assert!(map_check(&chart, &chart, &map).is_accepted());
+    }
+
+    #[test]
+    fn the_largest_takes_all_of_the_buffers() {
+        let (chart, rule) = (samples::largest_chart(), samples::largest_rule());
+        let number = |m, s| check(&chart, &rule, &mut vec![0; m], &mut vec![0; s]).number;
+        assert_eq!(number(MAX_MARKS - 1, MAX_SCRATCH), 17);
+        assert_eq!(number(MAX_MARKS, MAX_SCRATCH - 1), 18);
+    }
+}
