@@ -19,7 +19,7 @@ use crate::{call, Outcome};
 #[must_use = "the marks are written only on acceptance"]
 pub fn check(chart: &[u8], rule: &[u8], marks: &mut [u8], scratch: &mut [u32]) -> Outcome {
     // SAFETY: each pointer comes with the length of its own slice, and the two that are written to overlap no other.
-    unsafe {
+    let outcome = unsafe {
         call::doilystrand_check(
             chart.as_ptr(),
             chart.len(),
@@ -30,5 +30,6 @@ pub fn check(chart: &[u8], rule: &[u8], marks: &mut [u8], scratch: &mut [u32]) -
             scratch.as_mut_ptr(),
             scratch.len(),
         )
-    }
+    };
+    outcome.of_call(&[1..=19])
 }

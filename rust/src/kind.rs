@@ -34,7 +34,7 @@ pub struct KindAnswer {
 pub fn kind_of_rule(rule: &[u8]) -> KindAnswer {
     // SAFETY: the pointer comes with the length of its slice, which is only read.
     let coded = unsafe { call::doilystrand_kind_of_rule(rule.as_ptr(), rule.len()) };
-    KindAnswer { outcome: coded.outcome, kind: kind_of(coded.kind) }
+    KindAnswer { outcome: coded.outcome.of_call(&[10..=16]), kind: kind_of(coded.kind) }
 }
 
 fn kind_of(code: u32) -> Kind {

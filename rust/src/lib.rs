@@ -1,8 +1,8 @@
 //! Safe calls into the proved checker of timed rules over dispatch charts.
 //!
-//! The library takes any bytes and tests them itself, so no input is tested here. Answers are: one that the library
-//! promises never to give ends in a panic that names it. What is promised of each call stands in `docs/PROMISES.md`,
-//! the formats in `README.md`.
+//! The library takes any bytes and tests them itself, so no input is tested here. Answers are: a number, a kind, a place
+//! in a table, or a mark of [`marks`](marks()), that the library promises never to give ends in a panic that names it.
+//! What is promised of each call stands in `docs/PROMISES.md`, the formats in `README.md`.
 //!
 //! ```
 //! // Short: 0 to 1 in 5 to 10 minutes, 1 to 2 in 0 to 4, 2 to 0 in 20 to no end.

@@ -13,7 +13,7 @@ use crate::{call, Outcome};
 #[must_use = "it only answers"]
 pub fn map_check(detail: &[u8], overview: &[u8], map: &[u8]) -> Outcome {
     // SAFETY: each pointer comes with the length of its own slice, and all are only read.
-    unsafe {
+    let outcome = unsafe {
         call::doilystrand_map_check(
             detail.as_ptr(),
             detail.len(),
@@ -22,5 +22,6 @@ pub fn map_check(detail: &[u8], overview: &[u8], map: &[u8]) -> Outcome {
             map.as_ptr(),
             map.len(),
         )
-    }
+    };
+    outcome.of_call(&[1..=9, 19..=23, 41..=49, 59..=59])
 }

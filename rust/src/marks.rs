@@ -32,6 +32,7 @@ pub fn marks(chart: &[u8], rule: &[u8]) -> Result<Marks, Refusal> {
     check(chart, rule, &mut table, &mut vec![0; MAX_SCRATCH]).into_result()?;
     let (states, nodes) = (count(chart), count(rule));
     table.truncate(nodes * states);
+    table.iter().copied().for_each(tested);
     Ok(Marks { states, nodes, table })
 }
 
@@ -61,7 +62,7 @@ impl Marks {
     #[must_use]
     pub fn holds(&self, node: usize, state: usize) -> bool {
         assert!(state < self.states, "state {state} of {} states", self.states);
-        held(self.row(node)[state])
+        self.row(node)[state] == 1
     }
 
     /// Whether the rule itself, which is its last node, holds at the state.
@@ -98,12 +99,8 @@ impl Marks {
     }
 }
 
-fn held(mark: u8) -> bool {
-    match mark {
-        0 => false,
-        1 => true,
-        _ => panic!("the library writes mark {mark}, which is neither 0 nor 1"),
-    }
+fn tested(mark: u8) {
+    assert!(mark <= 1, "the library writes mark {mark}, which is neither 0 nor 1");
 }
 
 #[cfg(test)]
@@ -156,6 +153,6 @@ mod tests {
     #[test]
     #[should_panic = "the library writes mark 2, which is neither 0 nor 1"]
     fn unknown_mark_panics() {
-        held(2);
+        tested(2);
     }
 }

@@ -2,6 +2,7 @@
 
 use std::error::Error;
 use std::fmt;
+use std::ops::RangeInclusive;
 
 use crate::refusals::Row;
 
@@ -41,6 +42,14 @@ impl Outcome {
     #[must_use]
     pub fn place_counts(self) -> Option<&'static str> {
         Row::of(self.number)?.place
+    }
+
+    /// The outcome, where it is one that a call with these numbers can answer.
+    pub(crate) fn of_call(self, numbers: &[RangeInclusive<u32>]) -> Outcome {
+        let Outcome { number, place } = self;
+        let known = if number == 0 { place == 0 } else { numbers.iter().any(|range| range.contains(&number)) };
+        assert!(known, "the library answers number {number} at place {place}, which this call never does");
+        self
     }
 
     /// For `?`.
@@ -122,6 +131,26 @@ mod tests {
         assert_eq!(refusal(1, 0).to_string(), "refused 1 at 0: chart under 9 bytes");
         assert_eq!(refusal(23, 4).to_string(), "refused 23 at 4: arrow not covered (detail arrow 4)");
         assert_eq!(refusal(48, 3).outcome().place_counts(), Some("overview arrow"));
+    }
+
+    #[test]
+    fn outcomes_of_a_call_pass() {
+        for (number, place) in [(0, 0), (1, 0), (9, 255), (19, 4)] {
+            let outcome = Outcome { number, place };
+            assert_eq!(outcome.of_call(&[1..=9, 19..=19]), outcome);
+        }
+    }
+
+    #[test]
+    #[should_panic = "the library answers number 10 at place 0, which this call never does"]
+    fn another_calls_number_panics() {
+        let _ = Outcome { number: 10, place: 0 }.of_call(&[1..=9, 19..=19]);
+    }
+
+    #[test]
+    #[should_panic = "the library answers number 0 at place 7, which this call never does"]
+    fn acceptance_at_a_place_panics() {
+        let _ = Outcome { number: 0, place: 7 }.of_call(&[1..=19]);
     }
 
     #[test]

@@ -29,13 +29,14 @@ use Rattle.rows.proofs.Within.{within}
 use Rattle.reader.specs.declared.ChartReader.{ChartReader}
 use Rattle.reader.specs.declared.Handed.{Handed}
 use Rattle.reader.specs.declared.Handed.the-variants.{Finished}
-use Rattle.reader.specs.Reading.{handed, moved, numberAfter}
+use Rattle.reader.specs.declared.Stepped.{Stepped}
+use Rattle.reader.specs.Reading.{handed, stepOf, moved, numberAfter}
 use Rattle.reader.proofs.InOrder.{hands-out, finished-past, finished-at-once}
 use Rattle.loops.specs.Refusal.{acceptedTable}
 use Rattle.loops.proofs.Accepted.{accepted-iff}
 use Rattle.detail.specs.Refusals.{mapCheckTable}
 use Rattle.demands.specs.FirstDemand.{KindTold, Wholly, PlaceTold, Itself, RowTold}
-use Rattle.demands.specs.FirstDemand.{HandedTold, NextTold, FirstDemand}
+use Rattle.demands.specs.FirstDemand.{HandedTold, StepTold, NextTold, FirstDemand}
 use Rattle.demands.proofs.Answers.{answers}
 use Rattle.demands.proofs.Check.{rule-iff, check-unbroken}
 use Rattle.demands.proofs.MapCheck.{map-check-exact}
@@ -112,19 +113,31 @@ hand-out-told s i h e = record { arrow = λ ok l. e ∙ hands-out s ok i l; fini
     end (inl w) = finished-at-once s w i
     end (inr l) = finished-past s i l
 
+step-told : (s : List ℕ) (i : ℕ) (r : Stepped) → r ≡ stepOf s i → StepTold s i (r .handed) (r .number)
+step-told s i r e =
+    record {
+      answer = hand-out-told s i (r .handed) handed-is;
+      moves = λ a x. number ∙ ap (λ h. numberAfter h i) x;
+      stays = λ x. number ∙ ap (λ h. numberAfter h i) x;
+    }
+  where
+    handed-is : r .handed ≡ handed s i
+    handed-is = ap (λ (x : Stepped). x .handed) e
+
+    number : r .number ≡ numberAfter (r .handed) i
+    number = ap (λ (x : Stepped). x .number) e ∙ ap (λ h. numberAfter h i) (sym handed-is)
+
+-- a reader moves on as `step` says
 next-told :
     (before : ChartReader) (h : Handed) (after : ChartReader) →
     h ≡ handed (now (before .chart)) (before .number) → after ≡ moved before → NextTold before h after
 next-told before h after e m =
     record {
-      answer = hand-out-told (now (before .chart)) (before .number) h e;
       bytes = ap (λ (r : ChartReader). r .chart) m;
-      moves = λ a x. number ∙ ap (λ y. numberAfter y (before .number)) x;
-      stays = λ x. number ∙ ap (λ y. numberAfter y (before .number)) x;
+      step =
+          step-told (now (before .chart)) (before .number) (record { handed = h; number = after .number })
+          (λ i. record { handed = e i; number = m i .number });
     }
-  where
-    number : after .number ≡ numberAfter h (before .number)
-    number = ap (λ (r : ChartReader). r .number) m ∙ ap (λ y. numberAfter y (before .number)) (sym e)
 
 -- ── The demand ──
 
@@ -141,6 +154,7 @@ first-demand =
       row = λ overview detail choice n t part. row-told (chosen choice overview detail) part n t;
       row-place = place-told;
       hand-out = hand-out-told;
+      step = step-told;
       next = next-told;
       chart-rows = λ s r e. answers (chartTable s) e (chart-iff s);
       chart-accepted = λ s r e. answers (acceptedTable s) e (accepted-iff s);

@@ -1,6 +1,6 @@
 -- The first demand: nothing handed over breaks a call. Every open call is proved to end, and has no `requires`; what
--- its promise says is said here in 01's sentences, for whatever it was handed and all that it may answer and leave.
--- The quoted sentences are of 01.
+-- its promise says is said here in 01's sentences, for whatever it was handed and all that it may answer and leave. An
+-- exported call promises what the call behind it does. The quoted sentences are of 01.
 use mathlib.Core.Path.{_≡_}
 use mathlib.Core.Logic.{_⊎_}
 use mathlib.Core.List.{List}
@@ -26,7 +26,8 @@ use Rattle.rows.specs.Row.{chosen, Part, placeOf}
 use Rattle.reader.specs.declared.ChartReader.{ChartReader}
 use Rattle.reader.specs.declared.Handed.{Handed}
 use Rattle.reader.specs.declared.Handed.the-variants.{Arrow, Finished}
-use Rattle.reader.specs.Reading.{handed, moved}
+use Rattle.reader.specs.declared.Stepped.{Stepped}
+use Rattle.reader.specs.Reading.{handed, stepOf, moved}
 use Rattle.loops.specs.Accepted.{AcceptedChart}
 use Rattle.loops.specs.Refusal.{acceptedTable, acceptedRefusal}
 use Rattle.detail.specs.Refusals.{mapCheckTable, mapRefusal}
@@ -73,7 +74,7 @@ pub record KindTold (rule : List ℕ) (r : KindAnswer) : Type 0 where
 
 -- ── Row ──
 
--- row t, of n marks, "lies wholly in" a table of so many bytes; "n = 0 gives the empty part"
+-- row t, of n marks, does "lie wholly in" a table of so many bytes; "n = 0 gives the empty part"
 abbrev pub Wholly : ℕ → ℕ → ℕ → Type 0
 Wholly size n t = (0 < n) × (t * n + n ≤ size)
 
@@ -104,15 +105,19 @@ pub record HandedTold (s : List ℕ) (i : ℕ) (h : Handed) : Type 0 where
   -- "then says finished; over any other bytes it says finished at once"
   pub finished : ¬ (chartRefusal s .number ≡ 0) ⊎ (arrowCount s ≤ i) → h ≡ Finished
 
--- a call of `next`: what is handed out, and the reader before and after it
+-- what is handed out at number i, and the number j after that
+pub record StepTold (s : List ℕ) (i : ℕ) (h : Handed) (j : ℕ) : Type 0 where
+  pub answer : HandedTold s i h
+  -- "the number of the next arrow"
+  pub moves : (a : ArrowWords) → h ≡ Arrow a → j ≡ i + 1
+  -- once it said finished 01 leaves the number free: it stays
+  pub stays : h ≡ Finished → j ≡ i
+
+-- a call of `next`: the reader before it, what is handed out, and the reader after it
 pub record NextTold (before : ChartReader) (h : Handed) (after : ChartReader) : Type 0 where
-  pub answer : HandedTold (now (before .chart)) (before .number) h
   -- it "holds the lent chart bytes"
   pub bytes : after .chart ≡ before .chart
-  -- "and the number of the next arrow"
-  pub moves : (a : ArrowWords) → h ≡ Arrow a → after .number ≡ before .number + 1
-  -- its number once it said finished 01 leaves free: it stays
-  pub stays : h ≡ Finished → after .number ≡ before .number
+  pub step : StepTold (now (before .chart)) (before .number) h (after .number)
 
 -- ── The demand ──
 
@@ -133,6 +138,7 @@ pub record FirstDemand : Type 0 where
   pub row-place : (size n t : ℕ) (p : Place) → p ≡ placeOf size n t → PlaceTold size n t p
   -- `peek` and `hand_out`
   pub hand-out : (s : List ℕ) (i : ℕ) (h : Handed) → h ≡ handed s i → HandedTold s i h
+  pub step : (s : List ℕ) (i : ℕ) (r : Stepped) → r ≡ stepOf s i → StepTold s i (r .handed) (r .number)
   pub next :
       (before : ChartReader) (h : Handed) (after : ChartReader) →
       h ≡ handed (now (before .chart)) (before .number) → after ≡ moved before → NextTold before h after

@@ -22,7 +22,8 @@ pub record Files (chart : List ℕ) (chartSize : ℕ) (rule : List ℕ) (ruleSiz
   pub chart-read : Counts chartSize chart
   pub rule-read : Counts ruleSize rule
 
--- "each one more than the longest accepted": what is accepted is shorter, so of a longer file it shows that it is
+-- "each one more than the longest accepted": what is accepted is shorter, so of a longer file it shows that it is. That
+-- a chart and a rule of one byte less are accepted is shown by the program `desk_large`, which lists them.
 pub record OneMore : Type 0 where
   pub chart : (s : List ℕ) → chartRefusal s .number ≡ 0 → length s < chartRead
   pub rule : (s : List ℕ) → ruleRefusal s .number ≡ 0 → length s < ruleRead

@@ -7,9 +7,9 @@ ghost use Rattle.desk_call.specs.Files.{Files};
 ghost use Rattle.desk_call.specs.Printed.{printed};
 
 // How many bytes are read of a chart's file and of a rule's.
-const CHART: usize = 16906;
+pub const CHART: usize = 16906;
 
-const RULE: usize = 520;
+pub const RULE: usize = 520;
 
 // Marks and scratch for 256 states and 64 nodes.
 const MARKS: usize = 16384;

@@ -1,7 +1,7 @@
 -- What an arrow does to the number of its start, for each change that the code makes.
 use mathlib.Core.Bool.{Bool}
 use mathlib.Core.List.{List}
-use Prim.Native.Nat.{ℕ, _-_}
+use Prim.Native.Nat.{ℕ}
 use Rattle.tctl.specs.Chart.{Arrow}
 use Rattle.model.specs.Engine.{lower, raise}
 use Rattle.model.specs.Weighed.{weighing}

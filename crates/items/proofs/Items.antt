@@ -12,7 +12,6 @@ use borrow.Author.Tests.{eqb-true}
 use Rattle.truth.proofs.Truth.{and-iff, one-true}
 use Rattle.tctl.specs.Tabulate.{tabulate}
 use Rattle.tctl.specs.Chart.{states}
-use Rattle.tctl.specs.Holds.{Holds}
 use Rattle.tctl.proofs.Tabulate.{mem-tabulate}
 use Rattle.model.specs.Every.{every}
 use Rattle.model.specs.Engine.{round, rounds, lower, raise, least, greatest}

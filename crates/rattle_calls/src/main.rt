@@ -93,8 +93,8 @@ fn print_row<'a>(overview: &'a [u8], detail: &'a [u8], ask: &[u8; 5]) {
 }
 
 fn main() {
-    let mut chart = [0; 16906];
-    let mut rule = [0; 520];
+    let mut chart = [0; desk_call::CHART];
+    let mut rule = [0; desk_call::RULE];
     let mut ask = [0; 5];
     let chart_size = desk_call::read(b"desk.cht", &mut chart);
     let rule_size = desk_call::read(b"desk.rul", &mut rule);

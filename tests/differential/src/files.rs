@@ -26,7 +26,7 @@ pub struct Files {
 
 pub const PROGRAMS: [&str; 2] = ["desk", "rattle_calls"];
 
-/// Files for both programs. For some it is written down what the paper asks each of `PROGRAMS` to print.
+/// Files for both programs. For some it is written down what each of `PROGRAMS` has to print.
 pub struct Pair {
     pub name: String,
     pub files: Files,

@@ -1,5 +1,5 @@
-//! Named files with the texts that the paper asks for: both programs and the oracle are held to them. Here the paper's own
-//! listing, and files that can't be read.
+//! Named files with the texts that both programs have to print: they and the oracle are held to them. Here the paper's
+//! own listing, and files that can't be read.
 
 use crate::asks;
 use crate::chart::{arrow, Arrow, Chart};

@@ -40,7 +40,7 @@ impl Programs {
     fn differences(&self, pair: &Pair, texts: &[String; 2]) -> io::Result<Vec<String>> {
         let folder = Folder::fresh()?;
         pair.files.write(folder.path())?;
-        let mut differences = against_paper(pair, texts);
+        let mut differences = against_written(pair, texts);
         for ((name, path), text) in PROGRAMS.iter().zip(&self.paths).zip(texts) {
             let what = match process::run(Command::new(path).current_dir(folder.path()), LIMIT) {
                 Ok(ended) => judge::difference(&ended, text),
@@ -53,13 +53,13 @@ impl Programs {
 }
 
 /// The oracle's texts beside those that are written down.
-fn against_paper(pair: &Pair, texts: &[String; 2]) -> Vec<String> {
+fn against_written(pair: &Pair, texts: &[String; 2]) -> Vec<String> {
     let Some(written) = &pair.written else {
         return Vec::new();
     };
     let texts = PROGRAMS.iter().zip(texts).zip(written);
-    let differ = |((name, oracle), paper): ((&&str, &String), &String)| {
-        let what = judge::first_difference(("oracle", oracle.as_bytes()), ("paper", paper.as_bytes()))?;
+    let differ = |((name, oracle), written): ((&&str, &String), &String)| {
+        let what = judge::first_difference(("oracle", oracle.as_bytes()), ("written", written.as_bytes()))?;
         Some(format!("the oracle's text of {name}: {what}"))
     };
     texts.filter_map(differ).collect()
