@@ -46,6 +46,7 @@ pub record Acceptable (chart rule marks scratch : List ℕ) : Type 0 where
   -- not "scratch under 4n numbers"
   pub room : scratchSize (stateCount chart) ≤ length scratch
 
+-- what check answers and leaves, whatever it was handed
 pub record Unbroken (chart rule marks scratch : List ℕ) (r : Outcome) (newMarks newScratch : List ℕ) : Type 0 where
   pub answer : Answers (checkTable chart rule marks scratch) (Acceptable chart rule marks scratch) r
   -- nothing is added to what was lent, or taken from it
@@ -64,6 +65,7 @@ pub record Unbroken (chart rule marks scratch : List ℕ) (r : Outcome) (newMark
 
 -- ── Kind of rule ──
 
+-- what kind of rule answers
 pub record KindTold (rule : List ℕ) (r : KindAnswer) : Type 0 where
   -- "Kind of rule gives 10 to 16."
   pub answer : Answers (ruleTable rule) (Unmet (ruleTable rule)) (r .outcome)
@@ -90,6 +92,7 @@ pub record Itself (table part : RefT (List ℕ)) (start size : ℕ) : Type 0 whe
   pub bytes : now part ≡ take size (drop start (now table))
   pub pointer : ptr part ≡ (ptr table .0, ptr table .1 + start)
 
+-- the part that row answers
 pub record RowTold (table part : RefT (List ℕ)) (n t : ℕ) : Type 0 where
   -- "the part of the chosen table that holds row t"
   pub found : Wholly (length (now table)) n t → Itself table part (t * n) n
