@@ -106,8 +106,8 @@ fn zigzag(n: usize, mut arrows: Vec<Arrow>) -> Vec<Arrow> {
     arrows
 }
 
-/// A minute from each state to the next, those of odd states listed first: a sweep in either direction settles two more
-/// states only, and on a loop each number rises by two minutes a sweep until the loop is found.
+/// A minute from each state to the next, the arrows of odd states listed first, so that a sweep in either direction carries
+/// a number two states on only.
 fn odd_even(mut arrows: Vec<Arrow>) -> Vec<Arrow> {
     for arrow in &mut arrows {
         (arrow.fewest, arrow.most) = (1, 1);

@@ -141,9 +141,10 @@ next-told before h after e m =
 
 -- ── The demand ──
 
-chart-iff : (s : List ℕ) → (chartRefusal s ≡ success) ↔ Unmet (chartTable s)
+-- no row of the chart's table is met just where the call succeeds
+chart-rows-iff : (s : List ℕ) → (chartRefusal s ≡ success) ↔ Unmet (chartTable s)
 unfolding chartTable
-chart-iff s = success-iff (chartTable s) tt
+chart-rows-iff s = success-iff (chartTable s) tt
 
 pub first-demand : FirstDemand
 first-demand =
@@ -156,7 +157,7 @@ first-demand =
       hand-out = hand-out-told;
       step = step-told;
       next = next-told;
-      chart-rows = λ s r e. answers (chartTable s) e (chart-iff s);
+      chart-rows = λ s r e. answers (chartTable s) e (chart-rows-iff s);
       chart-accepted = λ s r e. answers (acceptedTable s) e (accepted-iff s);
       rule-rows = λ s r e. answers (ruleTable s) e (rule-iff s);
     }

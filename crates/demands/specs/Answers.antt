@@ -7,7 +7,7 @@ use Rattle.outcome.specs.declared.Outcome.{Outcome}
 use Rattle.outcome.specs.Refusal.{Row, success, refusal}
 use Rattle.outcome.specs.Met.{FirstMet}
 
--- the answer r, by the rows of this table, where what is acceptable is this
+-- r is the answer by this table, which lets pass just what is acceptable
 pub record Answers (table : List Row) (acceptable : Type 0) (r : Outcome) : Type 0 where
   -- "each number is returned if and only if its condition is met and none tested before it is"
   pub refuses : (n p : ℕ) → 0 < n → (r ≡ refusal n p) ↔ FirstMet table n p
