@@ -2,8 +2,9 @@
 
 use crate::bytes::{self, Arrow, NO_END};
 use crate::random::Random;
+use crate::unordered;
 
-pub const NAMES: [&str; 11] = [
+pub const NAMES: [&str; 15] = [
     "random",
     "waiting",
     "chain",
@@ -15,9 +16,22 @@ pub const NAMES: [&str; 11] = [
     "grid",
     "regular",
     "dense",
+    "hidden",
+    "layers",
+    "skips",
+    "retry",
 ];
 
-/// The chart of the family with n states and m arrows, m at least n; no such family gives none.
+/// The names of the family's charts: several where seeds make them, else one.
+pub fn charts(family: &str) -> Vec<String> {
+    if unordered::NAMES.contains(&family) {
+        unordered::charts(family)
+    } else {
+        vec![family.to_string()]
+    }
+}
+
+/// The chart of that name with n states and m arrows, m at least n; no such chart gives none.
 pub fn chart(name: &str, n: usize, m: usize) -> Option<Vec<u8>> {
     let mut random = Random::new(1);
     let arrows = match name {
@@ -33,7 +47,7 @@ pub fn chart(name: &str, n: usize, m: usize) -> Option<Vec<u8>> {
         "regular" => regular(n, m, &mut random),
         // As many states as give every ordered pair about one arrow.
         "dense" => return Some(dense(m, &mut random)),
-        _ => return None,
+        _ => return unordered::chart(name, n, m),
     };
     let one_way = name.starts_with("chain") || name.starts_with("zigzag") || name == "odd-even";
     let labels = if one_way { end_labels(n) } else { spread_labels(n, &mut random) };

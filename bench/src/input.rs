@@ -1,6 +1,7 @@
 //! One input of check, run on the library or on the peer.
 
-use bench::{families, peer, rules};
+use crate::timing::{in_turn, Pair, Plan};
+use bench::{drawn, families, peer, rules, small};
 use std::hint::black_box;
 
 pub struct Input {
@@ -22,10 +23,42 @@ impl Buffers {
 }
 
 impl Input {
-    pub fn new(family: &str, rule: &str, n: usize, m: usize) -> Result<Input, String> {
-        let chart = families::chart(family, n, m).ok_or(format!("no chart family {family}"))?;
-        let rule = rules::rule(rule).ok_or(format!("no rule {rule}"))?;
-        Ok(Input { chart, rule })
+    /// The input of those names, at the size of the tables by family.
+    pub fn named(chart: &str, rule: &str) -> Result<Input, String> {
+        Input::sized(chart, rule, 256, 2048)
+    }
+
+    /// Small and drawn charts have their own size. The rule `seed` is that of the chart `seed-N`.
+    pub fn sized(chart: &str, rule: &str, n: usize, m: usize) -> Result<Input, String> {
+        if let (Some(seed), "seed") = (chart.strip_prefix("seed-"), rule) {
+            return Ok(Input::drawn(seed.parse().map_err(|_| format!("{seed} is not a seed"))?));
+        }
+        let bytes = small::chart(chart).or_else(|| families::chart(chart, n, m)).ok_or(format!("no chart {chart}"))?;
+        let rule = small::rule(rule).or_else(|| rules::rule(rule)).ok_or(format!("no rule {rule}"))?;
+        Ok(Input { chart: bytes, rule })
+    }
+
+    pub fn drawn(seed: u64) -> Input {
+        Input { chart: drawn::chart(seed), rule: drawn::rule(seed) }
+    }
+
+    /// How many states, arrows and nodes it has.
+    pub fn sizes(&self) -> [u16; 3] {
+        let word = |bytes: &[u8], at: usize| u16::from_be_bytes([bytes[at], bytes[at + 1]]);
+        [word(&self.chart, 5), word(&self.chart, 7), word(&self.rule, 5)]
+    }
+
+    /// The times of library and peer; an answer that isn't the peer's is not timed.
+    pub fn times(&self, plan: &Plan) -> Result<Pair, String> {
+        self.agree()?;
+        let (mut ours, mut theirs) = (Buffers::new(), Buffers::new());
+        let library = || {
+            self.library(&mut ours);
+        };
+        let peer = || {
+            self.peer(&mut theirs);
+        };
+        Ok(in_turn(plan, library, peer))
     }
 
     pub fn library(&self, buffers: &mut Buffers) -> (u32, u32) {

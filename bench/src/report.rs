@@ -1,71 +1,49 @@
 //! The Markdown tables of the benchmark.
 
-use crate::input::{Buffers, Input};
-use crate::timing::{alone, in_turn, Plan, Times};
+use crate::agreement::agreement;
+use crate::input::Input;
+use crate::ratios::worst_chart;
+use crate::timing::{alone, Pair, Plan};
+use crate::worst;
 use bench::{families, maps, rules};
 use std::hint::black_box;
 
-const GROWTH: [usize; 5] = [16, 32, 64, 128, 256];
-const GROWING: [&str; 4] = ["random", "chain", "chain-loop", "zigzag"];
+pub const GROWTH: [usize; 5] = [16, 32, 64, 128, 256];
+pub const GROWING: [&str; 5] = ["random", "chain", "chain-loop", "zigzag", "hidden"];
 
 pub fn all(plan: &Plan) -> Result<(), String> {
     agreement()?;
-    println!(
-        "\nTimes in microseconds per call; {} batches of each program, a third of that for slow inputs,",
-        plan.batches
-    );
+    println!("\nTimes in microseconds per call; {} batches of each program, fewer for slow inputs,", plan.batches);
     println!("taken in turn in one run after a warm-up. Marks and scratch are not cleared between calls; check clears");
     println!("its scratch itself.\n");
     by_family(plan)?;
     growth(plan)?;
+    worst::table()?;
     map_checks(plan)
 }
 
-/// Compares library and peer on every input of check.
-pub fn agreement() -> Result<(), String> {
-    let mut count = 0;
-    let large = families::NAMES.iter().flat_map(|family| rules::NAMES.map(|rule| (*family, rule, 256)));
-    let growing = GROWING.iter().flat_map(|family| GROWTH.map(|n| (*family, "mixed", n)));
-    for (family, rule, n) in large.chain(growing) {
-        let input = Input::new(family, rule, n, 8 * n)?;
-        input.agree().map_err(|why| format!("{family} with {n} states, {rule}: {why}"))?;
-        count += 1;
-    }
-    println!("Library and peer give equal outcomes, marks and scratch on all {count} inputs.");
-    Ok(())
-}
-
-fn pair(plan: &Plan, input: &Input) -> (Times, Times) {
-    let (mut ours, mut theirs) = (Buffers::new(), Buffers::new());
-    let library = || {
-        input.library(&mut ours);
-    };
-    let peer = || {
-        input.peer(&mut theirs);
-    };
-    in_turn(plan, library, peer)
-}
-
-fn row(name: &str, times: &(Times, Times)) {
-    let (library, peer) = times;
+fn row(name: &str, times: &Pair) {
+    let (library, peer) = (&times.library, &times.peer);
     println!(
         "| {name} | {:.1} | {:.1} | {:.1} | {:.1} | {:.2} |",
         library.median,
         library.best,
         peer.median,
         peer.best,
-        library.median / peer.median
+        times.ratio()
     );
 }
 
 fn by_family(plan: &Plan) -> Result<(), String> {
     println!("## Check: 2,048 arrows, 64 nodes with 31 untils, 256 states (dense: 45)\n");
+    println!(
+        "Of hidden, layers, skips and retry, of which there are three charts each, the one of the greatest ratio.\n"
+    );
     println!("| chart | rule | library median | library best | peer median | peer best | library / peer |");
     println!("|---|---|---:|---:|---:|---:|---:|");
     for family in families::NAMES {
         for rule in rules::NAMES {
-            let input = Input::new(family, rule, 256, 2048)?;
-            row(&format!("{family} | {rule}"), &pair(plan, &input));
+            row(&format!("{family} | {rule}"), &worst_chart(plan, family, rule)?);
         }
     }
     println!();
@@ -78,8 +56,8 @@ fn growth(plan: &Plan) -> Result<(), String> {
     println!("|---|---:|---:|---:|---:|---:|---:|");
     for family in GROWING {
         for n in GROWTH {
-            let input = Input::new(family, "mixed", n, 8 * n)?;
-            row(&format!("{family} | {n}"), &pair(plan, &input));
+            let input = Input::sized(family, "mixed", n, 8 * n)?;
+            row(&format!("{family} | {n}"), &input.times(plan)?);
         }
     }
     println!();

@@ -2,13 +2,9 @@
 //! left.
 
 use crate::bytes::{self, Node};
+use crate::nodes::{always, label, not, some_run, ALL_RUNS as A, AT_LEAST, AT_MOST, SOME_RUN as E};
 
 pub const NAMES: [&str; 7] = ["mixed", "e-most", "e-least", "a-most", "a-least", "far", "e-far"];
-
-const E: u8 = 5;
-const A: u8 = 6;
-const AT_MOST: u8 = 1;
-const AT_LEAST: u8 = 2;
 
 /// Small, middle and greatest, as many as don't divide the four untils, so that each until meets each bound.
 const BOUNDS: [u16; 7] = [3, 65_535, 60, 0, 500, 12, 2_500];
@@ -53,7 +49,7 @@ impl Tree<'_> {
         let q = self.push(label((i * 6 + 1) % 16));
         // The one not of the rule.
         if self.count == 0 {
-            return (p, self.push(Node { operation: 2, kind: 0, a: q, b: 0, c: 0 }));
+            return (p, self.push(not(q)));
         }
         (p, q)
     }
@@ -64,15 +60,11 @@ impl Tree<'_> {
     }
 }
 
-fn label(a: u16) -> Node {
-    Node { operation: 1, kind: 0, a, b: 0, c: 0 }
-}
-
 /// Each until stands in the one after it as the first operand, and every bound is the greatest: on a chain with a loop
 /// every until is marked everywhere, so each has the whole chain to run.
 fn far() -> Vec<Node> {
     let untils = [(E, AT_MOST), (E, AT_LEAST), (A, AT_MOST)];
-    let mut nodes = vec![label(1), Node { operation: 2, kind: 0, a: 0, b: 0, c: 0 }];
+    let mut nodes = vec![label(1), not(0)];
     nodes.push(label(1));
     for i in 0..31 {
         let before = nodes.len() as u16 - 2;
@@ -88,12 +80,12 @@ fn far() -> Vec<Node> {
 /// Each until is E(the one before it until L1, at least 65,535), and the last node the one not: on a closed chain, where
 /// L1 stands at one state, every number rises to the greatest.
 fn e_far() -> Vec<Node> {
-    let mut nodes = vec![Node { operation: 0, kind: 0, a: 0, b: 0, c: 0 }];
+    let mut nodes = vec![always()];
     for _ in 0..31 {
         let before = nodes.len() as u16 - 1;
         nodes.push(label(1));
-        nodes.push(Node { operation: E, kind: AT_LEAST, a: before, b: before + 1, c: u16::MAX });
+        nodes.push(some_run(before, before + 1, AT_LEAST, u16::MAX));
     }
-    nodes.push(Node { operation: 2, kind: 0, a: nodes.len() as u16 - 1, b: 0, c: 0 });
+    nodes.push(not(nodes.len() as u16 - 1));
     nodes
 }

@@ -2,26 +2,22 @@
 
 use std::time::{Duration, Instant};
 
-/// How many batches are taken and how long one lasts at least. A call that alone takes several times as long is slow,
-/// and a third of the batches is enough for it.
+/// How many batches are taken, and how long one lasts at least. Of slow calls only as many are taken as `most` has room
+/// for, but always one.
 pub struct Plan {
     pub batches: usize,
     pub batch: Duration,
+    pub most: Duration,
 }
 
-const SLOW: f64 = 5.0;
+fn micros(time: Duration) -> f64 {
+    time.as_secs_f64() * 1e6
+}
 
 impl Plan {
-    fn micros(&self) -> f64 {
-        self.batch.as_secs_f64() * 1e6
-    }
-
-    fn batches_of(&self, micros: f64) -> usize {
-        if micros > SLOW * self.micros() {
-            self.batches.div_ceil(3)
-        } else {
-            self.batches
-        }
+    fn batches_of(&self, batch: f64) -> usize {
+        let room = (micros(self.most) / batch) as usize;
+        self.batches.min(room).max(1)
     }
 }
 
@@ -31,17 +27,33 @@ pub struct Times {
     pub best: f64,
 }
 
-/// Batches of two calls taken in turn, so that a slower spell of the machine meets both.
-pub fn in_turn(plan: &Plan, mut first: impl FnMut(), mut second: impl FnMut()) -> (Times, Times) {
-    let (batches, count) = warm_up(plan, &mut first);
-    let (others, other_count) = warm_up(plan, &mut second);
-    let counts = (count, other_count);
-    let mut times = (Vec::new(), Vec::new());
-    for _ in 0..batches.min(others) {
-        times.0.push(per_call(counts.0, &mut first));
-        times.1.push(per_call(counts.1, &mut second));
+/// The times of library and peer on the same input.
+pub struct Pair {
+    pub library: Times,
+    pub peer: Times,
+}
+
+impl Pair {
+    pub fn ratio(&self) -> f64 {
+        self.library.median / self.peer.median
     }
-    (summary(times.0), summary(times.1))
+}
+
+/// Batches of both calls taken in turn, so that a slower spell of the machine meets both; of the faster one more are
+/// taken if the other is slow.
+pub fn in_turn(plan: &Plan, mut library: impl FnMut(), mut peer: impl FnMut()) -> Pair {
+    let (batches, count) = warm_up(plan, &mut library);
+    let (peer_batches, peer_count) = warm_up(plan, &mut peer);
+    let mut times = (Vec::new(), Vec::new());
+    for turn in 0..batches.max(peer_batches) {
+        if turn < batches {
+            times.0.push(per_call(count, &mut library));
+        }
+        if turn < peer_batches {
+            times.1.push(per_call(peer_count, &mut peer));
+        }
+    }
+    Pair { library: summary(times.0), peer: summary(times.1) }
 }
 
 pub fn alone(plan: &Plan, mut call: impl FnMut()) -> Times {
@@ -53,9 +65,9 @@ pub fn alone(plan: &Plan, mut call: impl FnMut()) -> Times {
 fn warm_up(plan: &Plan, call: &mut impl FnMut()) -> (usize, u32) {
     let mut count = 1;
     loop {
-        let micros = per_call(count, call) * f64::from(count);
-        if micros >= plan.micros() {
-            return (plan.batches_of(micros), count);
+        let batch = per_call(count, call) * f64::from(count);
+        if batch >= micros(plan.batch) {
+            return (plan.batches_of(batch), count);
         }
         count *= 2;
     }
@@ -66,7 +78,7 @@ fn per_call(count: u32, call: &mut impl FnMut()) -> f64 {
     for _ in 0..count {
         call();
     }
-    start.elapsed().as_secs_f64() * 1e6 / f64::from(count)
+    micros(start.elapsed()) / f64::from(count)
 }
 
 fn summary(mut times: Vec<f64>) -> Times {
