@@ -47,9 +47,10 @@ pub fn chart(seed: u64) -> Vec<u8> {
             arrow.end = numbers[usize::from(arrow.end)];
         }
     }
-    match random.below(4) {
+    match random.below(8) {
         0 => {}
         1 => arrows.reverse(),
+        2 => arrows.sort_by_key(|arrow| arrow.start),
         _ => random.shuffle(&mut arrows),
     }
     bytes::chart(&labels(n, &mut random), &arrows)

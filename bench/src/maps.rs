@@ -4,7 +4,7 @@ use crate::bytes::{self, Arrow};
 use crate::families::{random_arrows, spread_labels};
 use crate::random::Random;
 
-pub const NAMES: [&str; 3] = ["identity", "last-covers", "quotient"];
+pub const NAMES: [&str; 6] = ["identity", "shuffled", "last-covers", "reversed", "apart", "quotient"];
 
 pub struct MapInput {
     pub detail: Vec<u8>,
@@ -18,20 +18,48 @@ const ARROWS: usize = 2048;
 /// The input of that name; no such input gives none.
 pub fn input(name: &str) -> Option<MapInput> {
     match name {
-        "identity" => Some(identity()),
+        "identity" => Some(itself(|_| ())),
+        "shuffled" => Some(itself(|arrows| Random::new(4).shuffle(arrows))),
         "last-covers" => Some(last_covers()),
+        "reversed" => Some(one_cover_each(|i| ARROWS - 1 - i)),
+        "apart" => Some(one_cover_each(apart)),
         "quotient" => Some(quotient()),
         _ => None,
     }
 }
 
-/// A random chart against itself.
-fn identity() -> MapInput {
+/// A random chart against itself, the overview's arrows put in an order of their own.
+fn itself(reorder: impl Fn(&mut [Arrow])) -> MapInput {
     let mut random = Random::new(2);
-    let arrows = random_arrows(STATES, ARROWS, &mut random);
-    let chart = bytes::chart(&spread_labels(STATES, &mut random), &arrows);
+    let mut arrows = random_arrows(STATES, ARROWS, &mut random);
+    let labels = spread_labels(STATES, &mut random);
+    let detail = bytes::chart(&labels, &arrows);
+    reorder(&mut arrows);
     let entries: Vec<u16> = (0..STATES as u16).collect();
-    MapInput { detail: chart.clone(), overview: chart, map: bytes::map(&entries) }
+    MapInput { detail, overview: bytes::chart(&labels, &arrows), map: bytes::map(&entries) }
+}
+
+/// All detail states stand for the one overview state, and each detail arrow is covered by one overview arrow alone, at
+/// that place: the ends tell nothing, only the slot does.
+fn one_cover_each(place: impl Fn(usize) -> usize) -> MapInput {
+    let slot = |i: usize, start, end| Arrow { start, end, fewest: 1 + i as u16, most: 1 + i as u16 };
+    let state = |i: usize| (i % STATES) as u16;
+    let detail: Vec<Arrow> = (0..ARROWS).map(|i| slot(i, state(i), state(i + 1))).collect();
+    let mut overview = vec![slot(0, 0, 0); ARROWS];
+    for i in 0..ARROWS {
+        overview[place(i)] = slot(i, 0, 0);
+    }
+    MapInput {
+        detail: bytes::chart(&[0; STATES], &detail),
+        overview: bytes::chart(&[0], &overview),
+        map: bytes::map(&[0; STATES]),
+    }
+}
+
+/// A quarter of the arrows at least from the arrow's own place, and from the cover found before, in either direction.
+fn apart(i: usize) -> usize {
+    let step = if i % 2 == 0 { ARROWS / 2 } else { ARROWS / 4 };
+    (i + step) % ARROWS
 }
 
 /// Even states stand for overview state 0, odd ones for 1. Only the last overview arrow covers what leads from 0 to 1,

@@ -34,7 +34,7 @@ impl Drawn {
 pub fn table() -> Result<(), String> {
     let mut drawn: Vec<Drawn> = (0..SEEDS).map(Drawn::time).collect::<Result<_, _>>()?;
     drawn.sort_by(|a, b| b.ratio().total_cmp(&a.ratio()));
-    println!("## Worst of 1,000 random charts with random rules, by ratio of the least times\n");
+    println!("## Worst of {SEEDS} random charts with random rules, by ratio of the least times\n");
     println!("| chart | states | arrows | nodes | library best | peer best | library / peer |");
     println!("|---|---:|---:|---:|---:|---:|---:|");
     for one in &drawn[..SHOWN] {
@@ -43,6 +43,6 @@ pub fn table() -> Result<(), String> {
     }
     let ratios: Vec<f64> = drawn.iter().map(Drawn::ratio).collect();
     let median = ratios[ratios.len() / 2];
-    println!("\nOf all 1,000: median {median:.2}, geometric mean {:.2}.\n", geometric_mean(&ratios));
+    println!("\nOf all {SEEDS}: median {median:.2}, geometric mean {:.2}.\n", geometric_mean(&ratios));
     Ok(())
 }

@@ -11,6 +11,23 @@ pub fn node(operation: u8, kind: u8, a: u16, b: u16, c: u16) -> Node {
     Node { operation, kind, a, b, c }
 }
 
+pub fn word(bytes: &[u8], at: usize) -> u16 {
+    u16::from_be_bytes([bytes[at], bytes[at + 1]])
+}
+
+/// The arrows that a chart's bytes hold, in order.
+pub fn arrows_of(chart: &[u8]) -> Vec<Arrow> {
+    let first = 9 + 2 * usize::from(word(chart, 5));
+    let arrows = chart[first..].chunks(8);
+    arrows.map(|a| arrow(word(a, 0), word(a, 2), word(a, 4), word(a, 6))).collect()
+}
+
+/// Outcome of the peer with the largest tables.
+pub fn outcome(chart: &[u8], rule: &[u8]) -> (u32, u32) {
+    let outcome = call(chart, rule, 64 * 256, 4 * 256).outcome;
+    (outcome.number, outcome.place)
+}
+
 /// What the lent tables hold before a call.
 pub const LENT_MARK: u8 = 0xAA;
 pub const LENT_NUMBER: u32 = 0xAAAA_AAAA;
