@@ -69,7 +69,7 @@ fn retry_leads_back() {
     }
 }
 
-/// Odd labels stand at one state, which is the end: nothing but itself is reached from there, or all is again.
+/// Odd labels stand at the one state that leads nowhere else; only in `retry` that one leads back too.
 #[test]
 fn one_state_ends_the_runs() {
     for family in unordered::NAMES.into_iter().filter(|&family| family != "retry") {
