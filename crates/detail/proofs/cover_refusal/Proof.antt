@@ -1,8 +1,10 @@
--- Invariant: every detail arrow before i is covered.
+-- Invariant: every detail arrow before i is covered, and near is an overview arrow or l.
 use mathlib.Core.Path.{_≡_, ap, _∙_}
 use mathlib.Core.Bool.{Bool, false, not}
 use Prim.Native.Nat.{ℕ, _≤_, _<_, _-_}
 use native.Mathlib.Omega.{arith}
+use lib.Dec.{ltb}
+use borrow.Author.Tests.{lt-ltb, le-ltb}
 use borrow.Author.Count.{below-none, below-more}
 use denote.Ref.{now}
 use Rattle.outcome.proofs.Search.{search-found, search-ended}
@@ -15,29 +17,35 @@ use Rattle.detail.proofs.cover_refusal.Statement.{statement}
 use Rattle.detail.proofs.cover_refusal.Tie as tie
 
 abbrev Inv-loop : tie.InvT-loop
-Inv-loop detail n m overview k l map i₀ i = (i ≤ m) × ((j : ℕ) → j < i → not (coveredAt detail overview map j) ≡ false)
+Inv-loop detail n m overview k l map i₀ near₀ i near =
+    (i ≤ m) × (near ≤ l) × ((j : ℕ) → j < i → not (coveredAt detail overview map j) ≡ false)
 
 abbrev μ-loop : tie.MeasureT-loop
-μ-loop detail n m overview k l map i₀ i = m - i
+μ-loop detail n m overview k l map i₀ near₀ i near = m - i
 
--- what the test of arrow i tells of it
-told :
-    (c : tie.After-covered-arrow Inv-loop μ-loop) {b : Bool} → not (c .covered-arrow .result) ≡ b →
-    let at-loop = c .before .before .before .before .before in
-    let a = at-loop .before .before .before .before .args in
-    not (coveredAt (now (a .detail)) (now (a .overview)) (now (a .map)) (at-loop .loop .i)) ≡ b
-told c g =
-    let read = c .before .before .before in
-    let at-loop = read .before .before in
-    let a = at-loop .before .before .before .before .args in
-    let w = read .arrow-at .ensures .0 in
-    let from = c .before .before .entry-at .ensures .0 in
-    let to = c .before .entry-at2 .ensures .0 in
-    covered-read (now (a .detail)) (now (a .overview)) (now (a .map)) (at-loop .loop .i) w from to
-    (c .covered-arrow .ensures) g
+module _ (c : tie.After-covering-arrow Inv-loop μ-loop) where
+  abbrev read : tie.After-arrow-at Inv-loop μ-loop
+  read = c .before .before .before
+
+  abbrev at-loop : tie.At-loop Inv-loop μ-loop
+  at-loop = read .before .before
+
+  abbrev start : tie.Start Inv-loop μ-loop
+  start = at-loop .before .before .before .before
+
+  -- what the search for a covering arrow tells of arrow i
+  told :
+      {b : Bool} → ltb (c .covering-arrow .result) (start .args .l) ≡ b →
+      let a = start .args in
+      not (coveredAt (now (a .detail)) (now (a .overview)) (now (a .map)) (at-loop .loop .i)) ≡ not b
+  told g =
+      let a = start .args in
+      covered-read (now (a .detail)) (now (a .overview)) (now (a .map)) (at-loop .loop .i) (read .arrow-at .ensures .0)
+      (c .before .before .entry-at .ensures .0) (c .before .entry-at2 .ensures .0) (c .covering-arrow .ensures .1)
+      (ap not g)
 
 loop-holds : tie.Need-loop-holds Inv-loop μ-loop
-loop-holds c = (omega arith, below-none _)
+loop-holds c = (omega arith, omega arith, below-none _)
 
 arrow-at-requires : tie.Need-arrow-at-requires Inv-loop μ-loop
 arrow-at-requires c κs = arrow-inside (shaped (c .before .before .before .before .before .pre .0)) (c .loop-test .taken)
@@ -56,34 +64,34 @@ entry-at-requires-2 c κs =
     let e = ap (λ (w : ArrowWords). w .end) (c .before .arrow-at .ensures .0) in
     omega (arith, p .2 .whole, below .1)
 
-covered-arrow-requires : tie.Need-covered-arrow-requires Inv-loop μ-loop
-covered-arrow-requires c κs = c .before .before .before .before .before .before .before .before .pre .1
+covering-arrow-requires : tie.Need-covering-arrow-requires Inv-loop μ-loop
+covering-arrow-requires c κs =
+    let p = c .before .before .before .before .before .before .before .before .pre in
+    (p .1, omega arith, c .before .entry-at .ensures .1, c .entry-at2 .ensures .1)
 
 cast-refused : tie.Need-cast-refused Inv-loop μ-loop
-cast-refused c =
-    let at-loop = c .before .before .before .before .before .before in
-    let start = at-loop .before .before .before .before in
-    omega (arith, shaped (start .pre .0) .few-arrows)
+cast-refused c = omega (arith, shaped (start (c .before) .pre .0) .few-arrows)
 
 returns : tie.Need-returns Inv-loop μ-loop
 returns c =
     let tested = c .before .before in
-    let loop = tested .before .before .before .before .before .loop in
-    let e = told tested (c .before .if1 .taken) in
-    c .refused .ensures ∙ search-found 23 (record { inside = omega arith; offends = e; under = loop .inv .1 })
+    let e = told tested (le-ltb _ _ (c .before .if1 .taken)) in
+    c .refused .ensures ∙
+    search-found 23 (record { inside = omega arith; offends = e; under = at-loop tested .loop .inv .2 })
 
 loop-again : tie.Need-loop-again Inv-loop μ-loop
 loop-again c =
     let tested = c .before in
-    let loop = tested .before .before .before .before .before .loop in
-    (omega arith, below-more _ (loop .i) (loop .inv .1) (told tested (c .if1 .left)))
+    let loop = at-loop tested .loop in
+    let e = told tested (lt-ltb _ _ (c .if1 .left)) in
+    (omega arith, tested .covering-arrow .ensures .0, below-more _ (loop .i) (loop .inv .2) e)
 
 returns-2 : tie.Need-returns-2 Inv-loop μ-loop
-returns-2 c = c .accepted .ensures ∙ search-ended 23 (λ v l. c .before .before .loop .inv .1 v (omega arith))
+returns-2 c = c .accepted .ensures ∙ search-ended 23 (λ v l. c .before .before .loop .inv .2 v (omega arith))
 
 pub cover-refusal-spec : {M : Type 1} → statement M
 cover-refusal-spec =
     tie.close
     (tie.spec Inv-loop μ-loop loop-holds arrow-at-requires entry-at-requires entry-at-requires-2
-    covered-arrow-requires cast-refused (λ c κs. tt) returns (λ c. omega arith) (λ c. omega arith) loop-again
+    covering-arrow-requires cast-refused (λ c κs. tt) returns (λ c. omega arith) (λ c. omega arith) loop-again
     (λ c κs. tt) returns-2)
