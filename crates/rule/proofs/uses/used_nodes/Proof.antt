@@ -1,0 +1,56 @@
+-- The invariant: the sets count what the first t nodes use.
+use mathlib.Core.Path.{_≡_, sym, ap, subst}
+use Prim.Native.Nat.{_-_, _+_, _≤_}
+use native.Mathlib.Omega.{arith}
+use native.Mathlib.Numerals.{add-one}
+use borrow.Author.Needs.{needs}
+use denote.Ref.{now}
+use Rattle.masks.proofs.Member.{member-none}
+use Rattle.rule.specs.Refusals.{usesIn, uses}
+use Rattle.rule.specs.Shape.{Operands}
+use Rattle.rule.specs.Parts.{Counted}
+use Rattle.rule.proofs.Counted.{counted-same}
+use Rattle.rule.proofs.uses.used_nodes.Statement.{statement}
+use Rattle.rule.proofs.uses.used_nodes.Tie as tie
+
+abbrev Inv-loop : tie.InvT-loop
+Inv-loop rule k used₀ t₀ used t = (t ≤ k) × Counted used (uses rule t)
+
+abbrev μ-loop : tie.MeasureT-loop
+μ-loop rule k used₀ t₀ used t = k - t
+
+loop-holds : tie.Need-loop-holds Inv-loop μ-loop
+unfolding uses
+loop-holds c = (
+  omega arith,
+  record { once = record { tells = λ v l. member-none v }; again = record { tells = λ v l. member-none v } },
+)
+
+node-at-requires : tie.Need-node-at-requires Inv-loop μ-loop
+node-at-requires c κs = omega (arith, c .before .before .before .pre .shape .whole)
+
+with-operands-requires : tie.Need-with-operands-requires Inv-loop μ-loop
+with-operands-requires c κs =
+    let t = c .before .before .loop .t in
+    subst Operands (sym (c .node-at .ensures .0))
+    (c .before .before .before .before .pre .operands t (c .before .loop-test .taken))
+
+loop-again : tie.Need-loop-again Inv-loop μ-loop
+unfolding uses
+loop-again c =
+    let s = now (c .before .before .before .before .before .args .rule) in
+    let t = c .before .before .before .loop .t in
+    let more = c .with-operands .ensures (uses s t) (c .before .before .before .loop .inv .1) in
+    (omega arith, rw (add-one t) (counted-same more (λ v. ap (λ w. uses s t v + usesIn v w) (c .before .node-at .ensures .0))))
+
+returns : tie.Need-returns Inv-loop μ-loop
+returns c =
+    let a = c .before .before .before .args in
+    let e : c .before .loop .t ≡ a .k = omega arith in
+    counted-same (c .before .loop .inv .1) (λ v. ap (λ t. uses (now (a .rule)) t v) e)
+
+pub used-nodes-spec : {M : Type 1} → statement M
+used-nodes-spec =
+    tie.close
+    (tie.spec Inv-loop μ-loop loop-holds node-at-requires with-operands-requires (λ c. omega arith)
+    (λ c. omega arith) loop-again returns)
