@@ -1,7 +1,7 @@
 -- The table of refusals 1 to 9 by parts: what the rows that are passed tell.
 use mathlib.Core.Path.{_≡_, subst₂}
 use mathlib.Core.Bool.{not}
-use mathlib.Core.List.{List, [], _∷_}
+use mathlib.Core.List.{List}
 use mathlib.Core.Option.{none}
 use Prim.Native.Nat.{ℕ, _<_}
 use native.Mathlib.Omega.{arith}
@@ -17,7 +17,7 @@ use Rattle.outcome.proofs.Lowest.{none-below}
 use Rattle.chart.specs.Bytes.{stateCount, arrowCount, chartLength, arrowWords}
 use Rattle.chart.specs.Shape.{Shape}
 use Rattle.chart.specs.Refusals.{chartTable, namesNoState}
-use Rattle.chart.specs.Parts.{arrowRow, bodyRows}
+use Rattle.chart.specs.Parts.{bodyRows}
 
 module _ (s : List ℕ) where
   module _ {n m : ℕ} (en : n ≡ stateCount s) (em : m ≡ arrowCount s) where
@@ -61,8 +61,3 @@ module _ (s : List ℕ) where
       let passes = none-below (λ i. namesNoState n (arrowWords s i)) m e i l in
       let k = or-false (leb n (w .start)) (leb n (w .end)) passes in
       (leb-false n (w .start) (k .0), leb-false n (w .end) (k .1))
-
-  pub ends-passed :
-      (n m : ℕ) → first (arrowRow 7 s n m ∷ []) .number ≡ 0 → (i : ℕ) → i < m →
-      (arrowWords s i .start < n) × (arrowWords s i .end < n)
-  ends-passed n m e = named n m (unmet-at (arrowRow 7 s n m ∷ []) tt e 0)

@@ -1,20 +1,25 @@
 -- The rows of the chart's table as the functions test them, of a chart with n states and m arrows.
-use mathlib.Core.Bool.{Bool, not, cond}
+use mathlib.Core.Path.{_≡_}
+use mathlib.Core.Bool.{not}
 use mathlib.Core.List.{List, [], _∷_}
-use Prim.Native.Nat.{ℕ}
-use lib.Dec.{eqb}
+use Prim.Native.Nat.{ℕ, _/_, _%_, _<_}
+use lib.ListN.{length, getD}
+use Rattle.masks.specs.Member.{member}
 use Rattle.outcome.specs.Refusal.{Row, refuse, lowest}
 use Rattle.chart.specs.Bytes.{arrowWords}
 use Rattle.chart.specs.Refusals.{namesNoState, emptySlot, leftBy}
-use Rattle.chart.specs.declared.ArrowWords.{ArrowWords}
 
--- an arrow's fault: that of row 7, or that of row 8
-abbrev pub offends : ℕ → ℕ → ArrowWords → Bool
-offends row n w = cond (eqb row 7) (namesNoState n w) (emptySlot w)
+-- row 7
+abbrev pub endRow : List ℕ → ℕ → ℕ → Row
+endRow s n m = refuse 7 (lowest (λ i. namesNoState n (arrowWords s i)) m)
 
--- row 7, or row 8
-abbrev pub arrowRow : ℕ → List ℕ → ℕ → ℕ → Row
-arrowRow row s n m = refuse row (lowest (λ i. offends row n (arrowWords s i)) m)
+-- row 8
+abbrev pub slotRow : List ℕ → ℕ → Row
+slotRow s m = refuse 8 (lowest (λ i. emptySlot (arrowWords s i)) m)
+
+-- rows 7 and 8
+abbrev pub arrowRows : List ℕ → ℕ → ℕ → List Row
+arrowRows s n m = endRow s n m ∷ slotRow s m ∷ []
 
 -- row 9
 abbrev pub stateRow : List ℕ → ℕ → ℕ → Row
@@ -22,4 +27,9 @@ stateRow s n m = refuse 9 (lowest (λ v. not (leftBy s m v)) n)
 
 -- rows 7 to 9
 abbrev pub bodyRows : List ℕ → ℕ → ℕ → List Row
-bodyRows s n m = arrowRow 7 s n m ∷ arrowRow 8 s n m ∷ stateRow s n m ∷ []
+bodyRows s n m = endRow s n m ∷ slotRow s m ∷ stateRow s n m ∷ []
+
+-- the sets, each of 64 states, have the states that the first i arrows leave
+pub record Leaves (s : List ℕ) (i : ℕ) (left : List ℕ) : Type 0 where
+  pub size : length left ≡ 4
+  pub tells : (v : ℕ) → v < 256 → member (getD left (v / 64) 0) (v % 64) ≡ leftBy s i v

@@ -1,14 +1,13 @@
 // Refusals 1 to 9 of a chart.
 ghost use mathlib.Core.Path.{_≡_};
-ghost use mathlib.Core.Bool.{false};
-ghost use mathlib.Core.List.{[], _∷_};
-ghost use Prim.Native.Nat.{ℕ, _+_, _*_, _≤_, _<_};
-ghost use lib.ListN.{length, getD};
+ghost use mathlib.Core.List.{List, [], _∷_};
+ghost use Prim.Native.Nat.{ℕ, suc, _+_, _*_, _≤_, _<_};
+ghost use lib.ListN.{length};
 ghost use Rattle.outcome.specs.Refusal.{first, rows};
 ghost use Rattle.chart.specs.Bytes.{arrowWords};
 ghost use Rattle.chart.specs.Shape.{Shape};
-ghost use Rattle.chart.specs.Refusals.{chartTable, chartRefusal, leftBy};
-ghost use Rattle.chart.specs.Parts.{offends, arrowRow, stateRow, bodyRows};
+ghost use Rattle.chart.specs.Refusals.{chartTable, chartRefusal, namesNoState, emptySlot};
+ghost use Rattle.chart.specs.Parts.{slotRow, arrowRows, stateRow, bodyRows, Leaves};
 use crate::ArrowWords;
 use outcome::Outcome;
 
@@ -37,57 +36,75 @@ fn size_refusal(chart: &[u8]) -> Outcome
     outcome::accepted()
 }
 
-// The fault of row 7, or that of row 8.
-fn offending(row: u32, n: usize, a: ArrowWords) -> bool
-    ensures { λ r. ⌜ r ≡ offends row n a ⌝ }
+// The fault of row 7.
+fn names_no_state(n: usize, a: ArrowWords) -> bool
+    ensures { λ r. ⌜ r ≡ namesNoState n a ⌝ }
 {
-    if row == 7 {
-        return n <= a.start || n <= a.end;
-    }
+    n <= a.start || n <= a.end
+}
+
+// The fault of row 8.
+fn empty_slot(a: ArrowWords) -> bool
+    ensures { λ r. ⌜ r ≡ emptySlot a ⌝ }
+{
     a.most < a.fewest || a.fewest == 65535
 }
 
-// Row 7, or row 8: the lowest arrow with its fault.
-fn arrow_refusal(chart: &[u8], n: usize, m: usize, row: u32) -> Outcome
-    requires { ⌜ Shape (now chart) n m ⌝ }
-    ensures { λ r. ⌜ r ≡ first (arrowRow row (now (chart .entry)) n m ∷ []) ⌝ }
+// Row 8 of the arrows up to arrow i, from that of the arrows before it.
+fn slot_refusal(before: Outcome, a: ArrowWords, i: usize) -> Outcome
+    requires { ⌜ i < 2048 ⌝ }
+    ensures { λ r. ⌜ ((s : List ℕ) → a ≡ arrowWords s i → before ≡ first (slotRow s i ∷ []) → r ≡ first (slotRow s (suc i) ∷ [])) ⌝ }
 {
-    let mut i = 0;
-    while i < m {
-        let a = crate::arrow_at(chart, n, i);
-        if offending(row, n, a) {
-            return outcome::refused(row, i as u32);
-        }
-        i += 1;
+    if !empty_slot(a) {
+        return before;
     }
-    outcome::accepted()
+    if before.number != 0 {
+        return before;
+    }
+    outcome::refused(8, i as u32)
 }
 
-// Which states one of the arrows leaves.
-fn left_states(chart: &[u8], n: usize, m: usize) -> [bool; 256]
-    requires { ⌜ Shape (now chart) n m × ((i : ℕ) → i < m → arrowWords (now chart) i .start < 256) ⌝ }
-    ensures { λ r. ⌜ ((v : ℕ) → v < 256 → getD r v false ≡ leftBy (now (chart .entry)) m v) ⌝ }
+// What a pass over the arrows finds: the first of rows 7 and 8 that is met, and if none is, which states an arrow leaves.
+struct Seen {
+    refusal: Outcome,
+    left: [u64; 4],
+}
+
+fn seen_arrows(chart: &[u8], n: usize, m: usize) -> Seen
+    requires { ⌜ Shape (now chart) n m ⌝ }
+    ensures { λ r. ⌜ r .refusal ≡ first (arrowRows (now (chart .entry)) n m) ⌝ }
+    ensures { λ r. ⌜ (r .refusal .number ≡ 0 → Leaves (now (chart .entry)) m (r .left)) ⌝ }
 {
-    let mut left = [false; 256];
+    let mut slots = outcome::accepted();
+    let mut left = [0u64; 4];
     let mut i = 0;
     while i < m {
         let a = crate::arrow_at(chart, n, i);
-        let v = a.start;
-        left[v] = true;
+        if names_no_state(n, a) {
+            return Seen {
+                refusal: outcome::refused(7, i as u32),
+                left: left,
+            };
+        }
+        slots = slot_refusal(slots, a, i);
+        let q = a.start / 64;
+        left[q] = masks::with(left[q], a.start % 64);
         i += 1;
     }
-    left
+    Seen {
+        refusal: slots,
+        left: left,
+    }
 }
 
 // Row 9.
-fn state_refusal(chart: &[u8], n: usize, m: usize) -> Outcome
-    requires { ⌜ Shape (now chart) n m × ((i : ℕ) → i < m → arrowWords (now chart) i .start < 256) ⌝ }
-    ensures { λ r. ⌜ r ≡ first (stateRow (now (chart .entry)) n m ∷ []) ⌝ }
+fn state_refusal(left: [u64; 4], n: usize) -> Outcome
+    requires { ⌜ n ≤ 256 ⌝ }
+    ensures { λ r. ⌜ ((s : List ℕ) (m : ℕ) → Leaves s m left → r ≡ first (stateRow s n m ∷ [])) ⌝ }
 {
-    let left = left_states(chart, n, m);
     let mut v = 0;
     while v < n {
-        if !left[v] {
+        if !masks::has(left[v / 64], v % 64) {
             return outcome::refused(9, v as u32);
         }
         v += 1;
@@ -100,15 +117,13 @@ fn body_refusal(chart: &[u8], n: usize, m: usize) -> Outcome
     requires { ⌜ Shape (now chart) n m ⌝ }
     ensures { λ r. ⌜ r ≡ first (bodyRows (now (chart .entry)) n m) ⌝ }
 {
-    let ends = arrow_refusal(chart, n, m, 7);
-    if ends.number != 0 {
-        return ends;
+    let seen = seen_arrows(chart, n, m);
+    let refusal = seen.refusal;
+    if refusal.number != 0 {
+        return refusal;
     }
-    let slots = arrow_refusal(chart, n, m, 8);
-    if slots.number != 0 {
-        return slots;
-    }
-    state_refusal(chart, n, m)
+    let left = seen.left;
+    state_refusal(left, n)
 }
 
 // Number and place of the first row of the table that is met.
