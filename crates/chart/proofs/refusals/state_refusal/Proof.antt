@@ -1,6 +1,7 @@
 -- The invariant: every state before v is in its set. So the state that is found is the lowest.
 use mathlib.Core.Path.{_≡_, sym, ap, _∙_}
-use mathlib.Core.Bool.{true, false, not}
+use mathlib.Core.Bool.{false, not}
+use mathlib.Core.List.{List}
 use Prim.Native.Nat.{ℕ, _≤_, _<_, _-_, _/_, _%_}
 use native.Mathlib.Omega.{arith}
 use lib.ListN.{getD}
@@ -9,6 +10,7 @@ use borrow.Author.Needs.{needs}
 use Rattle.masks.specs.Member.{member}
 use Rattle.outcome.proofs.Search.{search-found, search-ended}
 use Rattle.chart.specs.Refusals.{leftBy}
+use Rattle.chart.specs.Parts.{Leaves}
 use Rattle.chart.proofs.refusals.state_refusal.Statement.{statement}
 use Rattle.chart.proofs.refusals.state_refusal.Tie as tie
 
@@ -18,45 +20,54 @@ Inv-loop n left v₀ v = (v ≤ n) × ((u : ℕ) → u < v → not (member (getD
 abbrev μ-loop : tie.MeasureT-loop
 μ-loop n left v₀ v = n - v
 
+-- the stops: the call, the loop's head, a state tested
+abbrev start : tie.At-loop Inv-loop μ-loop → tie.Start Inv-loop μ-loop
+start c = c .before
+
+abbrev head : tie.After-has Inv-loop μ-loop → tie.At-loop Inv-loop μ-loop
+head c = c .before .before
+
 loop-holds : tie.Need-loop-holds Inv-loop μ-loop
 loop-holds c = (omega arith, below-none _)
 
 array-read-has : tie.Need-array-read-has Inv-loop μ-loop
-array-read-has c = omega (arith, c .before .before .pre)
+array-read-has c = omega (arith, start (c .before) .pre)
 
 cast-refused : tie.Need-cast-refused Inv-loop μ-loop
-cast-refused c = omega (arith, c .before .before .before .before .pre)
+cast-refused c = omega (arith, start (head (c .before)) .pre)
+
+-- a state is in its set just where an arrow leaves it
+says :
+    {s left : List ℕ} {m : ℕ} → Leaves s m left → (u : ℕ) → u < 256 →
+    not (leftBy s m u) ≡ not (member (getD left (u / 64) 0) (u % 64))
+says h u l = ap not (sym (h .tells u l))
 
 returns : tie.Need-returns Inv-loop μ-loop
 returns c s m h =
-    let tested = c .before .before in
-    let in-loop = tested .before in
-    let loop = in-loop .before .loop in
-    let few = in-loop .before .before .pre in
+    let test = c .before in
+    let at = head (test .before) in
+    let few = start at .pre in
+    let inside = test .before .before .loop-test .taken in
     c .refused .ensures ∙
     search-found 9 (
     record {
-      inside = in-loop .loop-test .taken;
-      offends =
-          ap not (sym (h .tells (loop .v) (omega (arith, few)))) ∙ ap not (sym (tested .has .ensures)) ∙
-          c .before .if1 .taken;
-      under = λ u l. ap not (sym (h .tells u (omega (arith, few)))) ∙ loop .inv .1 u l;
+      inside = inside;
+      offends = says h (at .loop .v) (omega (arith, few)) ∙ ap not (sym (test .before .has .ensures)) ∙ test .if1 .taken;
+      under = λ u l. says h u (omega (arith, few)) ∙ at .loop .inv .1 u l;
     }
     )
 
 loop-again : tie.Need-loop-again Inv-loop μ-loop
-loop-again c =
-    let tested = c .before in
-    let loop = tested .before .before .loop in
-    (omega arith, below-more _ _ (loop .inv .1) (ap not (sym (tested .has .ensures)) ∙ c .if1 .left))
+loop-again c = (
+  omega arith,
+  below-more _ _ (head (c .before) .loop .inv .1) (ap not (sym (c .before .has .ensures)) ∙ c .if1 .left),
+)
 
 returns-2 : tie.Need-returns-2 Inv-loop μ-loop
 returns-2 c s m h =
-    let done = c .before in
-    let loop = done .before .loop in
-    let few = done .before .before .pre in
-    c .accepted .ensures ∙
-    search-ended 9 (λ u l. ap not (sym (h .tells u (omega (arith, few)))) ∙ loop .inv .1 u (omega arith))
+    let at = c .before .before in
+    let few = start at .pre in
+    c .accepted .ensures ∙ search-ended 9 (λ u l. says h u (omega (arith, few)) ∙ at .loop .inv .1 u (omega arith))
 
 pub state-refusal-spec : {M : Type 1} → statement M
 state-refusal-spec =

@@ -19,6 +19,13 @@ Inv-loop rule k used₀ t₀ used t = (t ≤ k) × Counted used (uses rule t)
 abbrev μ-loop : tie.MeasureT-loop
 μ-loop rule k used₀ t₀ used t = k - t
 
+-- the stops: the call, the loop's head, a node read
+abbrev start : tie.At-loop Inv-loop μ-loop → tie.Start Inv-loop μ-loop
+start c = c .before .before
+
+abbrev head : tie.After-node-at Inv-loop μ-loop → tie.At-loop Inv-loop μ-loop
+head c = c .before .before
+
 loop-holds : tie.Need-loop-holds Inv-loop μ-loop
 unfolding uses
 loop-holds c = (
@@ -27,27 +34,31 @@ loop-holds c = (
 )
 
 node-at-requires : tie.Need-node-at-requires Inv-loop μ-loop
-node-at-requires c κs = omega (arith, c .before .before .before .pre .shape .whole)
+node-at-requires c κs = omega (arith, start (c .before) .pre .shape .whole)
 
 with-operands-requires : tie.Need-with-operands-requires Inv-loop μ-loop
 with-operands-requires c κs =
-    let t = c .before .before .loop .t in
-    subst Operands (sym (c .node-at .ensures .0))
-    (c .before .before .before .before .pre .operands t (c .before .loop-test .taken))
+    let at = head c in
+    subst Operands (sym (c .node-at .ensures .0)) (start at .pre .operands (at .loop .t) (c .before .loop-test .taken))
 
 loop-again : tie.Need-loop-again Inv-loop μ-loop
 unfolding uses
 loop-again c =
-    let s = now (c .before .before .before .before .before .args .rule) in
-    let t = c .before .before .before .loop .t in
-    let more = c .with-operands .ensures (uses s t) (c .before .before .before .loop .inv .1) in
-    (omega arith, rw (add-one t) (counted-same more (λ v. ap (λ w. uses s t v + usesIn v w) (c .before .node-at .ensures .0))))
+    let read = c .before in
+    let at = head read in
+    let s = now (start at .args .rule) in
+    let t = at .loop .t in
+    let more = c .with-operands .ensures (uses s t) (at .loop .inv .1) in (
+      omega arith,
+      rw (add-one t) (counted-same more (λ v. ap (λ w. uses s t v + usesIn v w) (read .node-at .ensures .0))),
+    )
 
 returns : tie.Need-returns Inv-loop μ-loop
 returns c =
-    let a = c .before .before .before .args in
-    let e : c .before .loop .t ≡ a .k = omega arith in
-    counted-same (c .before .loop .inv .1) (λ v. ap (λ t. uses (now (a .rule)) t v) e)
+    let at = c .before in
+    let a = start at .args in
+    let e : at .loop .t ≡ a .k = omega arith in
+    counted-same (at .loop .inv .1) (λ v. ap (λ t. uses (now (a .rule)) t v) e)
 
 pub used-nodes-spec : {M : Type 1} → statement M
 used-nodes-spec =

@@ -1,43 +1,60 @@
 -- The operands that the form has, one use after the other.
+use mathlib.Core.Path.{_≡_}
+use Prim.Native.Nat.{ℕ}
 use native.Mathlib.Omega.{arith}
 use borrow.Author.Tests.{le-leb, lt-leb}
 use borrow.Author.Needs.{needs}
 use Rattle.rule.specs.Form.{formOf}
+use Rattle.rule.specs.declared.NodeWords.{NodeWords}
 use Rattle.rule.proofs.Counted.{counted-same, uses-by}
 use Rattle.rule.proofs.uses.with_operands.Statement.{statement}
 use Rattle.rule.proofs.uses.with_operands.Tie as tie
 
+-- the stops: the form, and the left operand used
+module _ (c : tie.After-form) where
+  abbrev node : NodeWords
+  node = c .before .args .w
+
+  abbrev form : ℕ
+  form = formOf (node .operation)
+
+  same : c .form .result ≡ form
+  same = c .form .ensures
+
+abbrev formed : tie.After-with-use → tie.After-form
+formed c = c .before .before
+
 returns : tie.Need-returns
 returns c count h =
-    let w = c .before .before .args .w in
-    let f = formOf (w .operation) in
-    let e = c .before .form .ensures in
-    let none = uses-by w (lt-leb 2 f (omega arith)) (lt-leb 3 f (omega arith)) in
+    let f = c .before in
+    let e = same f in
+    let none = uses-by (node f) (lt-leb 2 (form f) (omega arith)) (lt-leb 3 (form f) (omega arith)) in
     counted-same h (λ v. omega (arith, none v))
 
 with-use-requires : tie.Need-with-use-requires
-with-use-requires c κs =
-    let e = c .before .form .ensures in c .before .before .pre .a (omega arith)
+with-use-requires c κs = let e = same (c .before) in c .before .before .pre .a (omega arith)
 
 returns-2 : tie.Need-returns-2
 returns-2 c count h =
-    let w = c .before .before .before .before .args .w in
-    let f = formOf (w .operation) in
-    let e = c .before .before .before .form .ensures in
-    let one = uses-by w (le-leb 2 f (omega arith)) (lt-leb 3 f (omega arith)) in
-    counted-same (c .before .with-use .ensures count h) (λ v. omega (arith, one v))
+    let left = c .before in
+    let f = formed left in
+    let e = same f in
+    let one = uses-by (node f) (le-leb 2 (form f) (omega arith)) (lt-leb 3 (form f) (omega arith)) in
+    counted-same (left .with-use .ensures count h) (λ v. omega (arith, one v))
 
 with-use-requires-2 : tie.Need-with-use-requires-2
 with-use-requires-2 c κs =
-    let e = c .before .before .before .form .ensures in c .before .before .before .before .pre .b (omega arith)
+    let f = formed (c .before) in
+    let e = same f in
+    f .before .pre .b (omega arith)
 
 returns-3 : tie.Need-returns-3
 returns-3 c count h =
-    let w = c .before .before .before .before .before .args .w in
-    let f = formOf (w .operation) in
-    let e = c .before .before .before .before .form .ensures in
-    let two = uses-by w (le-leb 2 f (omega arith)) (le-leb 3 f (omega arith)) in
-    counted-same (c .with-use2 .ensures _ (c .before .before .with-use .ensures count h)) (λ v. omega (arith, two v))
+    let left = c .before .before in
+    let f = formed left in
+    let e = same f in
+    let two = uses-by (node f) (le-leb 2 (form f) (omega arith)) (le-leb 3 (form f) (omega arith)) in
+    counted-same (c .with-use2 .ensures _ (left .with-use .ensures count h)) (λ v. omega (arith, two v))
 
 pub with-operands-spec : {M : Type 1} → statement M
 with-operands-spec =
