@@ -1,10 +1,9 @@
 -- Bits: of two words together, of a power of 2, and of a shift.
 use mathlib.Core.Path.{_≡_, ap, ap₂, _∙_}
-use mathlib.Core.Logic.{_⊎_, inl, inr, ⊎-elim, _↔_, by-cases}
+use mathlib.Core.Logic.{_↔_}
 use Prim.Native.Nat.{ℕ, zero, suc, _*_, _/_, _%_, _^_, _<_, max}
 use native.Mathlib.Nat.{one-mul, mod-eq-of-lt, zero-div, div-eq-of-lt, pow-suc, mul-div-mul-right}
 use native.Mathlib.Omega.{arith}
-use native.Mathlib.Decide.{ℕ-discrete}
 use lib.Pow.{pow-lt}
 use lib.Bits.{bitOr, or-shr, or-step}
 
@@ -15,15 +14,9 @@ Has w j = w / 2 ^ j % 2 ≡ 1
 pub has-zero : (j : ℕ) → Has 0 j → ⊥
 has-zero j h = omega (arith, zero-div (2 ^ j))
 
+-- a bit of two words together is the greater of their bits
 pub or-bit : (a b j : ℕ) → bitOr a b / 2 ^ j % 2 ≡ max (a / 2 ^ j % 2) (b / 2 ^ j % 2)
 or-bit a b j = omega (arith, or-shr a b j, or-step (a / 2 ^ j) (b / 2 ^ j))
-
--- the greater of two bits is 1 just where one of them is
-pub has-or : (a b j : ℕ) → Has (bitOr a b) j ↔ (Has a j ⊎ Has b j)
-has-or a b j = (there, ⊎-elim (λ h. omega (arith, or-bit a b j)) (λ h. omega (arith, or-bit a b j)))
-  where
-    there : Has (bitOr a b) j → Has a j ⊎ Has b j
-    there h = by-cases (ℕ-discrete (a / 2 ^ j % 2) 1) inl (λ k. inr (omega (arith, or-bit a b j)))
 
 -- By induction on both: 1 has bit 0 alone, twice a power has no bit 0, and its bits from 1 on are those of the power.
 pub has-power : (i j : ℕ) → Has (2 ^ i) j ↔ (i ≡ j)
