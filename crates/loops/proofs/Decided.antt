@@ -18,7 +18,7 @@ use Rattle.chart.specs.Shape.{Passed}
 use Rattle.chart.proofs.Reading.{has-states, drawn}
 use Rattle.loops.specs.declared.Search.the-variants.{Ranks, Batch}
 use Rattle.loops.specs.Parts.{AtRest}
-use Rattle.loops.proofs.Bits.{Has}
+use Rattle.masks.proofs.Bits.{Has}
 use Rattle.loops.proofs.Climb.{climb-numbers}
 use Rattle.loops.proofs.Cleared.{cleared-numbers}
 use Rattle.loops.proofs.Loops.{batch-iff, some-loop, no-loop}

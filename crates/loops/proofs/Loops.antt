@@ -11,11 +11,12 @@ use Rattle.tctl.proofs.Drawn.{Drawn, quickest}
 use Rattle.tctl.proofs.Path.{Path, stop, step, steps, minutes, Any, step-cast}
 use Rattle.tctl.proofs.Loop.{looped}
 use Rattle.tctl.proofs.Instant.{instant}
+use Rattle.masks.proofs.Bits.{Has, has-zero}
 use Rattle.model.specs.Engine.{num}
 use Rattle.model.proofs.Numbers.{set-elim}
 use Rattle.loops.specs.declared.Search.the-variants.{Ranks, Batch}
 use Rattle.loops.specs.Climb.{ownBit, lift, Climbs, same, more, Quiet}
-use Rattle.loops.proofs.Bits.{Has, has-zero, has-or, has-own}
+use Rattle.loops.proofs.Bits.{has-or, has-own}
 
 -- ── Which states are on a loop, of 32: at first no state has a bit ──
 
