@@ -49,7 +49,7 @@ fn input_refusal(chart: &[u8], rule: &[u8], marks: &[u8], scratch: &[u32]) -> Ou
     )
 }
 
-// Row 19; if it is not met, every node is settled, from the last one down.
+// Row 19; if it is not met, every state gets a first hint and every node is settled, from the last one down.
 fn judged(
     chart: &[u8],
     n: usize,
@@ -66,6 +66,7 @@ fn judged(
     if loops.number != 0 {
         return loops;
     }
+    hints::start(chart, n, m, numbers);
     let last = k - 1;
     settle::settle(chart, n, m, rule, last, marks, numbers);
     loops

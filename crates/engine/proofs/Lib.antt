@@ -1,9 +1,6 @@
-pub mod Total
-pub mod Weights
-pub mod Lent
-pub mod Limits
-pub mod Arrows
-pub mod Tried
-pub mod Leapt
-pub mod Sweeps
-pub mod Numbers
+pub mod Swept
+pub mod Marked
+pub mod Runs
+pub mod Descent
+pub mod Ascent
+pub mod OnTheWay

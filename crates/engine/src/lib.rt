@@ -1,301 +1,235 @@
-// The engine on lent numbers, one a state: sweeps over a chart's arrows, each of which may change the number of its
-// start, until none does. A row of marks says through which states it goes. While numbers rise, they have hints above
-// their values; what is promised then is about values, and in the end the hints are taken off.
+// The engine on lent numbers, one a state: arrows of a chart raise the numbers of their starts, until none does. The
+// arrow that raised a number last is its hint. In turn numbers rise along the hints and all arrows are tried. A row of
+// marks is lent for the walks.
 ghost use mathlib.Core.Path.{_≡_};
-ghost use mathlib.Core.Bool.{cond, _&&_};
-ghost use Prim.Native.Nat.{_+_, _≤_, _<_, min};
-ghost use lib.Dec.{eqb, ltb};
-ghost use Rattle.model.specs.Engine.{offer, lowered, raised};
-ghost use Rattle.model.specs.Marks.{flag};
-ghost use Rattle.model.specs.Weighed.{weight, weighed};
-ghost use Rattle.chart.specs.Bytes.{arrowWords, mostOf, chartOf};
-ghost use Rattle.chart.specs.Shape.{InRange};
-ghost use Rattle.hints.specs.Values.{radix, values};
-ghost use Rattle.engine.specs.Change.{highest, top, seen};
-ghost use Rattle.engine.specs.Sweep.{turned};
-ghost use Rattle.engine.specs.Parts.{Lent, Placed, Altered, Swept, Leapt};
-use chart::ArrowWords;
+ghost use mathlib.Core.Bool.{Bool, true};
+ghost use Prim.Native.Nat.{ℕ, _+_, _≤_, _<_, min};
+ghost use lib.ListN.{length};
+ghost use Rattle.model.specs.Engine.{num, lowered, raised};
+ghost use Rattle.model.specs.Weighed.{weighed};
+ghost use Rattle.chart.specs.Bytes.{chartOf};
+ghost use Rattle.chart.specs.Shape.{Passed};
+ghost use Rattle.hints.specs.Values.{radix, testedOf, values};
+ghost use Rattle.visits.specs.Way.{leftOver};
+ghost use Rattle.visits.specs.Moves.{Given, Ready, Goes};
+ghost use Rattle.engine.specs.Parts.{Lent, Settled, Quiet, Sweeps, Runs, Marked, hurriedOf};
+use visits::Climb;
+use visits::Way;
 
-// How a number is raised: by the most minutes or by a tick, to what that gives or to the cap at once.
-struct Climb {
-    ticks: bool,
-    leap: bool,
-    cap: u32,
-}
-
-// What an arrow does to the number of its start.
-enum Change {
-    Lower,
-    Raise(Climb),
-}
-
-// What an arrow with the word most weighs, as such a word.
-fn weight_of(ticks: bool, most: u32) -> u32
-    requires { ⌜ InRange most ⌝ }
-    ensures { λ r. ⌜ (mostOf r ≡ weight ticks (mostOf most)) × InRange r ⌝ }
+// One more than the last arrow before arrow k that would raise a number; 0 if none would. A loop of its own, for the
+// arrows that change nothing are most of them.
+fn last_raising(way: Way, chart: &[u8], n: usize, m: usize, k: usize, numbers: &[u32]) -> usize
+    requires { ⌜ Given way (now chart) n m (now numbers) × (k ≤ m) ⌝ }
+    ensures { λ r. ⌜ Quiet way (now (chart .entry)) r k (now (numbers .entry)) ⌝ }
 {
-    if ticks {
-        if most == 0 {
-            return 0;
+    let mut i = k;
+    while 0 < i {
+        if visits::raises(way, chart, n, m, i - 1, numbers) {
+            return i;
         }
-        return 1;
+        i -= 1;
     }
-    most
+    0
 }
 
-// The lesser of two numbers.
-fn lesser(a: u32, b: u32) -> u32
-    ensures { λ r. ⌜ r ≡ min a b ⌝ }
+// Every arrow is tried, from the last to the first.
+fn sweep(way: Way, chart: &[u8], n: usize, m: usize, numbers: &mut [u32]) -> bool
+    requires { ⌜ Given way (now chart) n m (now numbers) ⌝ }
+    ensures { λ r. ⌜ Sweeps way (now (chart .entry)) m r (now (numbers .entry)) (now (numbers .exit)) ⌝ }
 {
-    if a < b {
-        return a;
-    }
-    b
-}
-
-// What an arrow with the word most offers its start, from its end's number.
-fn offered(climb: Climb, most: u32, there: u32) -> u32
-    requires { ⌜ InRange most × (there ≤ highest) ⌝ }
-    ensures { λ r. ⌜ r ≡ offer (climb .cap) (weight (climb .ticks) (mostOf most)) there ⌝ }
-{
-    let w = weight_of(climb.ticks, most);
-    if chart::no_end(w) {
-        return climb.cap;
-    }
-    lesser(climb.cap, there + w)
-}
-
-// What the number becomes that an offer v raises.
-fn reached(climb: Climb, v: u32) -> u32
-    ensures { λ r. ⌜ r ≡ cond (climb .leap) (climb .cap) v ⌝ }
-{
-    if climb.leap {
-        return climb.cap;
-    }
-    v
-}
-
-// What counts at a state with that mark for a number to be lowered: v, and past every number without the mark 1. An
-// answer instead of an early end, since whether a state is gone through is a test that no processor foretells.
-fn barred(mark: u8, v: u32) -> u32
-    ensures { λ r. ⌜ r ≡ cond (eqb mark 1) v radix ⌝ }
-{
-    if mark == 1 {
-        return v;
-    }
-    hints::RADIX
-}
-
-// And for a number to be raised from one there: v, and 0 without the mark 1 or from the number 0.
-fn kept(mark: u8, there: u32, v: u32) -> u32
-    ensures { λ r. ⌜ r ≡ cond (eqb mark 1 && ltb 0 there) v 0 ⌝ }
-{
-    if mark != 1 {
-        return 0;
-    }
-    if there == 0 {
-        return 0;
-    }
-    v
-}
-
-// The arrow a lowers the number of its start. Answers 0 if it does not, else 1 more than that state.
-fn lower(go: &[u8], a: ArrowWords, numbers: &mut [u32]) -> usize
-    requires { ⌜ Placed Change.Lower a (now go) (now numbers) ⌝ }
-    ensures { λ r. ⌜ Altered Change.Lower r (now (go .entry)) a (now (numbers .entry)) (now (numbers .exit)) ⌝ }
-{
-    let s = a.start;
-    let e = a.end;
-    let v = barred(go[s], a.fewest + numbers[e]);
-    if numbers[s] <= v {
-        return 0;
-    }
-    numbers[s] = v;
-    s + 1
-}
-
-// Arrow i with the words a raises the value of its start, and is then its hint. From an end with the value 0 there is
-// no offer.
-fn raise(climb: Climb, go: &[u8], a: ArrowWords, i: usize, numbers: &mut [u32]) -> usize
-    requires { ⌜ Placed (Change.Raise climb) a (now go) (now numbers) × (climb .cap ≤ highest) × (i < 2048) ⌝ }
-    ensures { λ r. ⌜ Altered (Change.Raise climb) r (now (go .entry)) a
-        (now (numbers .entry)) (now (numbers .exit)) ⌝ }
-{
-    let s = a.start;
-    let e = a.end;
-    let there = hints::value(numbers[e]);
-    let v = kept(go[s], there, offered(climb, a.most, there));
-    if v <= hints::value(numbers[s]) {
-        return 0;
-    }
-    numbers[s] = hints::hinted(reached(climb, v), i);
-    s + 1
-}
-
-// Arrow i with the words a changes the number of its start.
-fn alter(change: Change, go: &[u8], a: ArrowWords, i: usize, numbers: &mut [u32]) -> usize
-    requires { ⌜ Placed change a (now go) (now numbers) × (top change ≤ highest) × (i < 2048) ⌝ }
-    ensures { λ r. ⌜ Altered change r (now (go .entry)) a (now (numbers .entry)) (now (numbers .exit)) ⌝ }
-{
-    match change {
-        Change::Lower => lower(go, a, numbers),
-        Change::Raise(climb) => raise(climb, go, a, i, numbers),
+    let mut any = false;
+    let mut i = m;
+    loop {
+        i = last_raising(way, chart, n, m, i, numbers);
+        if i == 0 {
+            return any;
+        }
+        i -= 1;
+        let x = visits::renew(way, chart, n, m, i, numbers);
+        any = any | x;
     }
 }
 
-// Arrow i changes the number of its start.
-fn step(
-    change: Change,
-    chart: &[u8],
-    n: usize,
-    m: usize,
-    i: usize,
-    go: &[u8],
-    numbers: &mut [u32],
-) -> usize
-    requires { ⌜ Lent (now chart) n m (now go) (seen change (now numbers)) × (top change ≤ highest) × (i < m) ⌝ }
-    ensures { λ r. ⌜ Altered change r (now (go .entry)) (arrowWords (now (chart .entry)) i)
-        (now (numbers .entry)) (now (numbers .exit)) ⌝ }
-{
-    alter(change, go, chart::arrow_at(chart, n, i), i, numbers)
-}
-
-// The arrow that is tried after i others, of m.
-fn turn(back: bool, m: usize, i: usize) -> usize
-    requires { ⌜ i < m ⌝ }
-    ensures { λ r. ⌜ r ≡ turned back m i ⌝ }
+// The k-th of n from the first on, or from the last back.
+fn turn(back: bool, n: usize, k: usize) -> usize
+    requires { ⌜ k < n ⌝ }
+    ensures { λ r. ⌜ r < n ⌝ }
 {
     if back {
-        return m - 1 - i;
+        return n - 1 - k;
     }
-    i
+    k
 }
 
-// The later of two answers, the first unless there was a second.
-fn later(first: usize, second: usize) -> usize
-    ensures { λ r. ⌜ r ≡ cond (eqb second 0) first second ⌝ }
+// The hint of every state is tried, from the first state to the last or back.
+fn pass(way: Way, back: bool, chart: &[u8], n: usize, m: usize, numbers: &mut [u32]) -> bool
+    requires { ⌜ Given way (now chart) n m (now numbers) ⌝ }
+    ensures { λ r. ⌜ Goes way (now (chart .entry)) m r (now (numbers .entry)) (now (numbers .exit)) ⌝ }
 {
-    if second == 0 {
-        return first;
+    let mut any = false;
+    let mut k = 0;
+    while k < n {
+        let x = visits::follow(way, chart, n, m, turn(back, n, k), numbers);
+        any = any | x;
+        k += 1;
     }
-    second
+    any
 }
 
-// One sweep over the arrows, on or back. Answers 0 if it changed nothing, else 1 more than the state it changed last.
-fn sweep(
-    change: Change,
-    back: bool,
+// Where a walk came to, by so many states.
+struct Steps {
+    at: usize,
+    count: usize,
+}
+
+// No walk goes on from the number x: it was met on one of these walks, or has a side.
+fn ends(seen: bool, x: u32) -> bool {
+    if hints::RADIX <= hints::tested(x) {
+        return true;
+    }
+    hints::marked(x) == seen
+}
+
+// A walk along the hints, of n states at most. The row has its states, and their marks are turned.
+fn trail(
+    seen: bool,
     chart: &[u8],
     n: usize,
     m: usize,
-    go: &[u8],
+    from: usize,
+    row: &mut [u8],
     numbers: &mut [u32],
-) -> usize
-    requires { ⌜ Lent (now chart) n m (now go) (seen change (now numbers)) × (top change ≤ highest) ⌝ }
-    ensures { λ r. ⌜ Swept change back (now (chart .entry)) m (now (go .entry)) r
-        (seen change (now (numbers .entry))) (seen change (now (numbers .exit))) ⌝ }
+) -> Steps
+    requires { ⌜ Passed (now chart) n m × (length (now numbers) ≡ n) × (length (now row) ≡ n) × (from < n) ⌝ }
+    ensures { λ r. ⌜ Marked (now (numbers .entry)) (now (numbers .exit)) × (r .at < n) × (r .count ≤ n) ⌝ }
 {
-    let mut last = 0;
-    let mut i = 0;
-    while i < m {
-        let j = turn(back, m, i);
-        last = later(last, step(change, chart, n, m, j, go, numbers));
-        i += 1;
+    let mut at = from;
+    let mut k = 0;
+    while k < n {
+        let x = numbers[at];
+        let i = hints::hint(x);
+        if ends(seen, x) | (m <= i) {
+            return Steps { at, count: k };
+        }
+        numbers[at] = hints::turned(x);
+        row[k] = at as u8;
+        let a = hints::arrow(chart, n, m, i);
+        at = a.end;
+        k += 1;
     }
-    last
+    Steps { at, count: k }
 }
 
-// The least minutes: numbers are lowered, on and back, until no arrow lowers one.
-pub fn least(chart: &[u8], n: usize, m: usize, go: &[u8], numbers: &mut [u32])
-    requires { ⌜ Lent (now chart) n m (now go) (now numbers) ⌝ }
-    ensures { λ _. ⌜ now (numbers .exit) ≡
-        lowered (chartOf (now (chart .entry)) .arrows) n (flag (now (go .entry))) (now (numbers .entry)) ⌝ }
+// The walk back: the hints of the states that the row has are tried, from the last of them to the first.
+fn back(way: Way, chart: &[u8], n: usize, m: usize, count: usize, row: &[u8], numbers: &mut [u32])
+    requires { ⌜ Given way (now chart) n m (now numbers) × (length (now row) ≡ n) × (count ≤ n) ⌝ }
+    ensures { λ _. ⌜ Runs way (now (chart .entry)) m (now (numbers .entry)) (now (numbers .exit)) ⌝ }
 {
-    let mut back = false;
-    loop {
-        if sweep(Change::Lower, back, chart, n, m, go, numbers) == 0 {
+    let mut k = count;
+    while 0 < k {
+        k -= 1;
+        let s = words::wide(row[k]) as usize;
+        if n <= s {
             return;
         }
-        back = !back;
+        visits::follow(way, chart, n, m, s, numbers);
     }
 }
 
-// How many arrows a loop may have, and the cap.
-struct Reach {
-    most: usize,
-    cap: u32,
-}
-
-// The number of state r goes to the cap, if the hints lead round from there and time passes.
-fn leap(reach: Reach, chart: &[u8], n: usize, m: usize, go: &[u8], r: usize, numbers: &mut [u32])
-    requires { ⌜ Lent (now chart) n m (now go) (values (now numbers)) × (reach .cap ≤ highest) × (r < n) ⌝ }
-    ensures { λ _. ⌜ Leapt (chartOf (now (chart .entry))) (flag (now (go .entry))) n (reach .cap)
-        (values (now (numbers .entry))) (values (now (numbers .exit))) ⌝ }
-{
-    let x = numbers[r];
-    let v = hints::value(x);
-    if v == 0 {
-        return;
-    }
-    if reach.cap <= v {
-        return;
-    }
-    if !hints::circles(chart, n, m, reach.most, numbers, go, r) {
-        return;
-    }
-    numbers[r] = hints::revalued(x, reach.cap);
-}
-
-// The same of every state.
-fn leap_everywhere(reach: Reach, chart: &[u8], n: usize, m: usize, go: &[u8], numbers: &mut [u32])
-    requires { ⌜ Lent (now chart) n m (now go) (values (now numbers)) × (reach .cap ≤ highest) ⌝ }
-    ensures { λ _. ⌜ Leapt (chartOf (now (chart .entry))) (flag (now (go .entry))) n (reach .cap)
-        (values (now (numbers .entry))) (values (now (numbers .exit))) ⌝ }
-{
-    let mut r = 0;
-    while r < n {
-        leap(reach, chart, n, m, go, r, numbers);
-        r += 1;
-    }
-}
-
-// Whether loops are looked for everywhere after so many sweeps. Seldom, for it takes n times as many arrows; and never
-// after n sweeps, since every raise is a leap then.
-fn due(done: usize, n: usize) -> bool {
-    if n <= done {
-        return false;
-    }
-    match done {
-        4 | 8 | 16 | 32 | 64 | 128 => true,
-        _ => false,
-    }
-}
-
-// Loops are looked for: where the hints lead from the state that changed last, and now and then from every state, loops
-// of as many arrows as there were sweeps before.
-fn leaps(
-    reach: Reach,
+// A walk from state s and back. Where it comes to a state of its own, numbers may rise round a loop.
+fn walk_from(
+    way: Way,
+    seen: bool,
     chart: &[u8],
     n: usize,
     m: usize,
-    go: &[u8],
-    last: usize,
+    s: usize,
+    row: &mut [u8],
     numbers: &mut [u32],
 )
-    requires { ⌜ Lent (now chart) n m (now go) (values (now numbers)) × (reach .cap ≤ highest) × (last < n) ⌝ }
-    ensures { λ _. ⌜ Leapt (chartOf (now (chart .entry))) (flag (now (go .entry))) n (reach .cap)
-        (values (now (numbers .entry))) (values (now (numbers .exit))) ⌝ }
+    requires { ⌜ Given way (now chart) n m (now numbers) × (length (now row) ≡ n) × (s < n) ⌝ }
+    ensures { λ _. ⌜ Runs way (now (chart .entry)) m (now (numbers .entry)) (now (numbers .exit)) ⌝ }
 {
-    let far = Reach {
-        most: n,
-        cap: reach.cap,
-    };
-    let r = hints::follow(chart, n, m, numbers, last);
-    leap(far, chart, n, m, go, r, numbers);
-    if !due(reach.most, n) {
-        return;
+    let t = trail(seen, chart, n, m, s, row, numbers);
+    visits::leap(way, chart, n, m, t.count, t.at, numbers);
+    back(way, chart, n, m, t.count, row, numbers);
+}
+
+// A walk from each state that was not met on one of them.
+fn walk(way: Way, seen: bool, chart: &[u8], n: usize, m: usize, row: &mut [u8], numbers: &mut [u32])
+    requires { ⌜ Given way (now chart) n m (now numbers) × (length (now row) ≡ n) ⌝ }
+    ensures { λ _. ⌜ Runs way (now (chart .entry)) m (now (numbers .entry)) (now (numbers .exit)) ⌝ }
+{
+    let mut s = 0;
+    while s < n {
+        walk_from(way, seen, chart, n, m, s, row, numbers);
+        s += 1;
     }
-    leap_everywhere(reach, chart, n, m, go, numbers);
+}
+
+// The hints are tried in the order of states: back, and where minutes fall on again. Answers whether the last pass changed
+// a number.
+fn passes(way: Way, chart: &[u8], n: usize, m: usize, numbers: &mut [u32]) -> bool
+    requires { ⌜ Given way (now chart) n m (now numbers) ⌝ }
+    ensures { λ _. ⌜ Runs way (now (chart .entry)) m (now (numbers .entry)) (now (numbers .exit)) ⌝ }
+{
+    if !pass(way, true, chart, n, m, numbers) {
+        return false;
+    }
+    match way {
+        Way::Lower => pass(way, false, chart, n, m, numbers),
+        Way::Raise(_) => true,
+    }
+}
+
+// Numbers rise along the hints: by passes, and if that is not enough by walks. Answers which marks the next walk takes
+// for those of states that it met.
+fn along(
+    way: Way,
+    seen: bool,
+    chart: &[u8],
+    n: usize,
+    m: usize,
+    row: &mut [u8],
+    numbers: &mut [u32],
+) -> bool
+    requires { ⌜ Given way (now chart) n m (now numbers) × (length (now row) ≡ n) ⌝ }
+    ensures { λ _. ⌜ Runs way (now (chart .entry)) m (now (numbers .entry)) (now (numbers .exit)) ⌝ }
+{
+    if !passes(way, chart, n, m, numbers) {
+        return seen;
+    }
+    walk(way, seen, chart, n, m, row, numbers);
+    !seen
+}
+
+// Every number has a side, so that none can rise.
+fn all_sided(numbers: &[u32]) -> bool
+    ensures { λ r. ⌜ (r ≡ true → (s : ℕ) → s < length (now (numbers .entry)) →
+        radix ≤ testedOf (num (now (numbers .entry)) s)) ⌝ }
+{
+    let mut s = 0;
+    while s < numbers.len() {
+        if hints::tested(numbers[s]) < hints::RADIX {
+            return false;
+        }
+        s += 1;
+    }
+    true
+}
+
+// The way, with leaps or without.
+fn hurried(way: Way, leap: bool) -> Way
+    ensures { λ r. ⌜ r ≡ hurriedOf way leap ⌝ }
+{
+    match way {
+        Way::Lower => Way::Lower,
+        Way::Raise(climb) => Way::Raise(Climb {
+            ticks: climb.ticks,
+            leap,
+            cap: climb.cap,
+        }),
+    }
 }
 
 // One more than the sweeps done, up to n.
@@ -309,48 +243,44 @@ fn counted(done: usize, n: usize) -> usize
     n
 }
 
-// Numbers are raised, on and back, until no arrow raises one. What goes round a loop in which time passes rises without
-// end, and so does what rises after n sweeps.
-fn rise(chart: &[u8], n: usize, m: usize, ticks: bool, cap: u32, go: &[u8], numbers: &mut [u32])
-    requires { ⌜ Lent (now chart) n m (now go) (values (now numbers)) × (cap ≤ highest) ⌝ }
-    ensures { λ _. ⌜ values (now (numbers .exit)) ≡
-        raised (weighed ticks (chartOf (now (chart .entry)) .arrows)) n cap (flag (now (go .entry)))
-        (values (now (numbers .entry))) ⌝ }
+// Numbers rise until no arrow raises one. What rises after n sweeps rises without end, and goes to the cap at once.
+fn settle(way: Way, chart: &[u8], n: usize, m: usize, row: &mut [u8], numbers: &mut [u32])
+    requires { ⌜ Lent way (now chart) n m (now row) (now numbers) ⌝ }
+    ensures { λ _. ⌜ ((go : ℕ → Bool) → Ready way go (now (numbers .entry)) →
+        Settled way (now (chart .entry)) n go (now (numbers .entry)) (now (numbers .exit))) ⌝ }
 {
-    let mut back = false;
     let mut done = 0;
+    let mut seen = true;
     loop {
-        let climb = Climb {
-            ticks,
-            leap: n <= done,
-            cap,
-        };
-        let last = sweep(Change::Raise(climb), back, chart, n, m, go, numbers);
-        if last == 0 {
+        let pace = hurried(way, n <= done);
+        seen = along(pace, seen, chart, n, m, row, numbers);
+        if all_sided(numbers) {
             return;
         }
-        let reach = Reach { most: done, cap };
-        leaps(reach, chart, n, m, go, last - 1, numbers);
-        back = !back;
+        if !sweep(pace, chart, n, m, numbers) {
+            return;
+        }
         done = counted(done, n);
     }
 }
 
-// The greatest minutes: numbers are raised until no arrow raises one, and then their hints are taken off.
-pub fn greatest(
-    chart: &[u8],
-    n: usize,
-    m: usize,
-    ticks: bool,
-    cap: u32,
-    go: &[u8],
-    numbers: &mut [u32],
-)
-    requires { ⌜ Lent (now chart) n m (now go) (now numbers) × (cap ≤ highest) ⌝ }
-    ensures { λ _. ⌜ now (numbers .exit) ≡
-        raised (weighed ticks (chartOf (now (chart .entry)) .arrows)) n cap (flag (now (go .entry)))
-        (now (numbers .entry)) ⌝ }
+// The least minutes, as what they leave to the top.
+pub fn least(chart: &[u8], n: usize, m: usize, row: &mut [u8], numbers: &mut [u32])
+    requires { ⌜ Lent Way.Lower (now chart) n m (now row) (now numbers) ⌝ }
+    ensures { λ _. ⌜ ((go : ℕ → Bool) → Ready Way.Lower go (now (numbers .entry)) →
+        leftOver (values (now (numbers .exit))) ≡
+        lowered (chartOf (now (chart .entry)) .arrows) n go (leftOver (values (now (numbers .entry))))) ⌝ }
 {
-    rise(chart, n, m, ticks, cap, go, numbers);
-    hints::bare(numbers);
+    settle(Way::Lower, chart, n, m, row, numbers);
+}
+
+// The greatest minutes.
+pub fn greatest(chart: &[u8], n: usize, m: usize, climb: Climb, row: &mut [u8], numbers: &mut [u32])
+    requires { ⌜ Lent (Way.Raise climb) (now chart) n m (now row) (now numbers) ⌝ }
+    ensures { λ _. ⌜ ((go : ℕ → Bool) → Ready (Way.Raise climb) go (now (numbers .entry)) →
+        values (now (numbers .exit)) ≡
+        raised (weighed (climb .ticks) (chartOf (now (chart .entry)) .arrows)) n (climb .cap) go
+        (values (now (numbers .entry)))) ⌝ }
+{
+    settle(Way::Raise(climb), chart, n, m, row, numbers);
 }

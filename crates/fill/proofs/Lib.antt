@@ -1,2 +1,4 @@
+pub mod Choice
 pub mod Written
+pub mod Sided
 pub mod Cleared

@@ -14,15 +14,15 @@ use Rattle.model.specs.Marks.{bit}
 use Rattle.model.proofs.Marks.{row-below}
 use Rattle.fill.specs.Parts.{Written}
 
--- entries at places that differ are as g says, and one more after it is set
+-- what f reads of entries at places that differ is as g says, and of one more after it is set
 pub set-more :
-    (at : ℕ → ℕ) (vs : List ℕ) (i v : ℕ) (g : ℕ → ℕ) → ((s : ℕ) → s < i → ¬ (at s ≡ at i)) → at i < length vs →
-    v ≡ g i → ((s : ℕ) → s < i → getD vs (at s) 0 ≡ g s) →
-    (s : ℕ) → s < i + 1 → getD (set vs (at i) v) (at s) 0 ≡ g s
-set-more at vs i v g apart l e f =
-    below-more (λ s. getD (set vs (at i) v) (at s) 0 ≡ g s) i
-    (λ s h. getD-set-other vs (at i) (at s) v 0 (apart s h) ∙ f s h)
-    (getD-set-same vs (at i) v 0 l ∙ e)
+    (f : ℕ → ℕ) (at : ℕ → ℕ) (vs : List ℕ) (i v : ℕ) (g : ℕ → ℕ) → ((s : ℕ) → s < i → ¬ (at s ≡ at i)) →
+    at i < length vs → f v ≡ g i → ((s : ℕ) → s < i → f (getD vs (at s) 0) ≡ g s) →
+    (s : ℕ) → s < i + 1 → f (getD (set vs (at i) v) (at s) 0) ≡ g s
+set-more f at vs i v g apart l e h =
+    below-more (λ s. f (getD (set vs (at i) v) (at s) 0) ≡ g s) i
+    (λ s k. ap f (getD-set-other vs (at i) (at s) v 0 (apart s k)) ∙ h s k)
+    (ap f (getD-set-same vs (at i) v 0 l) ∙ e)
 
 byte-bit : (b : Bool) → boolByte b ≡ bit b
 byte-bit true = refl
@@ -40,7 +40,7 @@ module _ {at : ℕ} {f : ℕ → Bool} {old : List ℕ} where
       record {
         size = length-set new (at + i) v ∙ w .size;
         here =
-            set-more (λ s. at + s) new i v (λ s. bit (f s)) (λ s h k. omega arith) (omega (arith, w .size))
+            set-more (λ v. v) (λ s. at + s) new i v (λ s. bit (f s)) (λ s h k. omega arith) (omega (arith, w .size))
             (byte-bit b ∙ ap bit e) (w .here);
         elsewhere = λ j h. getD-set-other new (at + i) j v 0 (off j h) ∙ w .elsewhere j (nearer j h);
       }

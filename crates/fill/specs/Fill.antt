@@ -1,30 +1,69 @@
 -- What a row of marks or a list of numbers is filled with, state by state.
+use mathlib.Core.Path.{_≡_}
 use mathlib.Core.Bool.{Bool, true, false, cond, _&&_, _||_}
 use mathlib.Core.Bool.{not as neg}
-use Prim.Native.Nat.{ℕ}
+use Prim.Native.Nat.{ℕ, _-_, _<_}
 use lib.Dec.{ltb, leb}
+use Rattle.hints.specs.Values.{sided}
+use Rattle.visits.specs.Way.{top, beside}
 use Rattle.fill.specs.declared.Mix.{Mix}
-use Rattle.fill.specs.declared.Mix.the-variants.{Yes, First, Not, And, Or, Waiting}
+use Rattle.fill.specs.declared.Mix.the-variants.{Yes, Not, And, Or}
 use Rattle.fill.specs.declared.Base.{Base}
 use Rattle.fill.specs.declared.Base.the-variants.{Reach, Goal, Fail, Stay}
 
 -- a mark from those of two operands
 abbrev pub mixOf : Mix → Bool → Bool → Bool
 mixOf Yes p q = true
-mixOf First p q = p
 mixOf Not p q = neg p
 mixOf And p q = p && q
 mixOf Or p q = p || q
-mixOf Waiting p q = p && neg q
 
--- a number from the marks of two operands
+-- the cap that a base is given
+abbrev pub capOf : Base → ℕ
+capOf (Reach cap) = cap
+capOf (Goal cap) = cap
+capOf (Fail cap) = cap
+capOf (Stay cap) = cap
+
+-- the value of a state, from the marks of two operands
+abbrev pub startOf : Base → Bool → Bool → ℕ
+startOf (Reach cap) p q = cond q top (top - cap)
+startOf (Goal cap) p q = cond q 1 0
+startOf (Fail cap) p q = cond (p || q) 1 cap
+startOf (Stay cap) p q = cond p (top - cap) top
+
+-- the state is gone through
+abbrev pub goOf : Base → Bool → Bool → Bool
+goOf (Reach cap) p q = p
+goOf (Goal cap) p q = p
+goOf (Fail cap) p q = p && neg q
+goOf (Stay cap) p q = true
+
+-- no value rises above it
+abbrev pub limitOf : Base → ℕ
+limitOf (Reach cap) = top
+limitOf (Goal cap) = cap
+limitOf (Fail cap) = cap
+limitOf (Stay cap) = top
+
+-- the value v, and a side unless its state is gone through and it is below the limit
+abbrev pub placedOf : ℕ → Bool → ℕ → ℕ
+placedOf v go limit = beside v (neg (go && ltb v limit))
+
+-- the value and the side of a state, from the marks of two operands
 abbrev pub baseOf : Base → Bool → Bool → ℕ
-baseOf (Reach cap) p q = cond q 0 cap
-baseOf Goal p q = cond q 1 0
-baseOf (Fail cap) p q = cond (p || q) 1 cap
-baseOf (Stay cap) p q = cond p cap 0
+baseOf base p q = placedOf (startOf base p q) (goOf base p q) (limitOf base)
 
--- a mark from a number: above the limit, or up to it
+-- r is x where b holds, else y
+pub record Chosen (b : Bool) (x y r : ℕ) : Type 0 where
+  pub is : r ≡ cond b x y
+
+-- r is the value v and its side
+pub record Placed (v : ℕ) (go : Bool) (limit r : ℕ) : Type 0 where
+  pub is : r ≡ placedOf v go limit
+  pub low : r < sided
+
+-- a mark from a value: above the limit, or up to it
 abbrev pub judged : Bool → ℕ → ℕ → Bool
 judged true limit v = ltb limit v
 judged false limit v = leb v limit

@@ -1,33 +1,33 @@
 // Filling, state by state: a row of marks from the rows of two operands, from labels or from numbers; numbers from two
-// rows of marks.
+// rows of marks. A number keeps its hint.
 ghost use mathlib.Core.Path.{_≡_};
-ghost use mathlib.Core.Bool.{cond};
-ghost use Prim.Native.Nat.{_+_, _*_, _≤_, _<_, _/_, _%_, _^_};
-ghost use lib.ListN.{length};
+ghost use mathlib.Core.Bool.{true};
+ghost use Prim.Native.Nat.{ℕ, _+_, _*_, _≤_, _<_, _/_, _%_, _^_};
+ghost use lib.ListN.{length, getD};
 ghost use lib.Dec.{eqb};
-ghost use Rattle.tctl.specs.Tabulate.{tabulate};
 ghost use Rattle.model.specs.Engine.{num};
-ghost use Rattle.model.specs.Decide.{leadsTo};
-ghost use Rattle.model.specs.Marks.{flag, mark};
-ghost use Rattle.chart.specs.Bytes.{labelWord, chartOf};
+ghost use Rattle.model.specs.Marks.{mark};
+ghost use Rattle.chart.specs.Bytes.{labelWord};
 ghost use Rattle.chart.specs.Shape.{Passed};
-ghost use Rattle.fill.specs.Fill.{mixOf, baseOf, judged};
-ghost use Rattle.fill.specs.Parts.{Wrote};
+ghost use Rattle.hints.specs.Values.{valueOf};
+ghost use Rattle.visits.specs.Way.{highest, top};
+ghost use Rattle.fill.specs.Fill.{mixOf, capOf, startOf, goOf, limitOf, baseOf, judged, Chosen, Placed};
+ghost use Rattle.fill.specs.Parts.{Wrote, Filled, Sured};
 
-// A mark from the marks p and q of two operands. Waiting: p and not q.
+// A mark from the marks p and q of two operands.
 pub enum Mix {
     Yes,
-    First,
     Not,
     And,
     Or,
-    Waiting,
 }
 
-// A number from p and q: 0 at q, else the cap; 1 at q, else 0; 1 at p or q, else the cap; the cap at p, else 0.
+// What numbers start from, by p and q; minutes that fall are what they leave to the top.
+// Reach: 0 minutes at q, else the cap, through p. Goal: 1 at q, else 0, through p. Fail: 1 at p or q, else the cap,
+// through p where q does not hold. Stay: the cap of minutes at p, else 0, through every state.
 pub enum Base {
     Reach(u32),
-    Goal,
+    Goal(u32),
     Fail(u32),
     Stay(u32),
 }
@@ -38,17 +38,15 @@ fn mixed(mix: Mix, p: bool, q: bool) -> bool
 {
     match mix {
         Mix::Yes => true,
-        Mix::First => p,
         Mix::Not => !p,
         Mix::And => p & q,
         Mix::Or => p | q,
-        Mix::Waiting => p & !q,
     }
 }
 
 // x where b holds, else y.
 fn either(b: bool, x: u32, y: u32) -> u32
-    ensures { λ r. ⌜ r ≡ cond b x y ⌝ }
+    ensures { λ r. ⌜ Chosen b x y r ⌝ }
 {
     if b {
         return x;
@@ -56,15 +54,25 @@ fn either(b: bool, x: u32, y: u32) -> u32
     y
 }
 
-// The number from the marks p and q.
-fn based(base: Base, p: bool, q: bool) -> u32
-    ensures { λ r. ⌜ r ≡ baseOf base p q ⌝ }
+// The value v, with a side unless its state is gone through and it is below the limit.
+fn placed(v: u32, go: bool, limit: u32) -> u32
+    requires { ⌜ v ≤ top ⌝ }
+    ensures { λ r. ⌜ Placed v go limit r ⌝ }
 {
+    v + either(!(go & (v < limit)), hints::RADIX, 0)
+}
+
+// The value and the side from the marks p and q.
+fn based(base: Base, p: bool, q: bool) -> u32
+    requires { ⌜ capOf base ≤ highest ⌝ }
+    ensures { λ r. ⌜ Placed (startOf base p q) (goOf base p q) (limitOf base) r ⌝ }
+{
+    let t = visits::TOP;
     match base {
-        Base::Reach(cap) => either(q, 0, cap),
-        Base::Goal => either(q, 1, 0),
-        Base::Fail(cap) => either(p | q, 1, cap),
-        Base::Stay(cap) => either(p, cap, 0),
+        Base::Reach(cap) => placed(either(q, t, t - cap), p, t),
+        Base::Goal(cap) => placed(either(q, 1, 0), p, cap),
+        Base::Fail(cap) => placed(either(p | q, 1, cap), p & !q, cap),
+        Base::Stay(cap) => placed(either(p, t - cap, t), true, t),
     }
 }
 
@@ -96,6 +104,20 @@ pub fn fill(mix: Mix, n: usize, t: usize, a: usize, b: usize, marks: &mut [u8])
     }
 }
 
+// Every mark of a row is v.
+pub fn all_are(v: u8, row: &[u8]) -> bool
+    ensures { λ r. ⌜ (r ≡ true → (s : ℕ) → s < length (now (row .entry)) → getD (now (row .entry)) s 0 ≡ v) ⌝ }
+{
+    let mut s = 0;
+    while s < row.len() {
+        if row[s] != v {
+            return false;
+        }
+        s += 1;
+    }
+    true
+}
+
 // Row t from label i.
 pub fn fill_label(chart: &[u8], n: usize, i: usize, t: usize, marks: &mut [u8])
     requires { ⌜ (9 + 2 * n ≤ length (now chart)) × (i < 16) × (t * n + n ≤ length (now marks)) ⌝ }
@@ -111,16 +133,16 @@ pub fn fill_label(chart: &[u8], n: usize, i: usize, t: usize, marks: &mut [u8])
     }
 }
 
-// Row t from numbers: those above a limit, or those up to it.
+// Row t from the values of numbers: those above a limit, or those up to it.
 pub fn judge(above: bool, limit: u32, n: usize, t: usize, numbers: &[u32], marks: &mut [u8])
     requires { ⌜ (length (now numbers) ≡ n) × (t * n + n ≤ length (now marks)) ⌝ }
-    ensures { λ _. ⌜ Wrote n t (λ s. judged above limit (num (now (numbers .entry)) s))
+    ensures { λ _. ⌜ Wrote n t (λ s. judged above limit (valueOf (num (now (numbers .entry)) s)))
         (now (marks .entry)) (now (marks .exit)) ⌝ }
 {
     let at = t * n;
     let mut s = 0;
     while s < n {
-        marks[at + s] = verdict(above, limit, numbers[s]) as u8;
+        marks[at + s] = verdict(above, limit, hints::value(numbers[s])) as u8;
         s += 1;
     }
 }
@@ -128,8 +150,9 @@ pub fn judge(above: bool, limit: u32, n: usize, t: usize, numbers: &[u32], marks
 // Numbers from the rows of a and b.
 pub fn fill_numbers(base: Base, n: usize, a: usize, b: usize, marks: &[u8], numbers: &mut [u32])
     requires { ⌜ (length (now numbers) ≡ n) × (a * n + n ≤ length (now marks)) × (b * n + n ≤ length (now marks)) ⌝ }
-    ensures { λ _. ⌜ now (numbers .exit) ≡
-        tabulate n (λ s. baseOf base (mark n (now (marks .entry)) a s) (mark n (now (marks .entry)) b s)) ⌝ }
+    requires { ⌜ capOf base ≤ highest ⌝ }
+    ensures { λ _. ⌜ Filled n
+        (λ s. baseOf base (mark n (now (marks .entry)) a s) (mark n (now (marks .entry)) b s)) (now (numbers .exit)) ⌝ }
 {
     let left = a * n;
     let right = b * n;
@@ -137,24 +160,36 @@ pub fn fill_numbers(base: Base, n: usize, a: usize, b: usize, marks: &[u8], numb
     while s < n {
         let p = marks[left + s] == 1;
         let q = marks[right + s] == 1;
-        numbers[s] = based(base, p, q);
+        numbers[s] = hints::anew(numbers[s], based(base, p, q));
         s += 1;
     }
 }
 
-// The number of each state from which an arrow leads to where good does not hold becomes 0.
-pub fn clear_unsure(chart: &[u8], n: usize, m: usize, good: &[u8], numbers: &mut [u32])
+// The value of each state from which an arrow leads to where good does not hold becomes the top. A choice instead of a
+// test, since marks are data that no processor foretells.
+fn clear_each(chart: &[u8], n: usize, m: usize, good: &[u8], numbers: &mut [u32])
     requires { ⌜ Passed (now chart) n m × (length (now good) ≡ n) × (length (now numbers) ≡ n) ⌝ }
-    ensures { λ _. ⌜ now (numbers .exit) ≡
-        tabulate n (λ s. cond (leadsTo (chartOf (now (chart .entry)) .arrows) (flag (now (good .entry))) s)
-        (num (now (numbers .entry)) s) 0) ⌝ }
+    ensures { λ _. ⌜ Sured (now (chart .entry)) n (now (good .entry)) (now (numbers .entry)) (now (numbers .exit)) ⌝ }
 {
     let mut i = 0;
     while i < m {
-        let a = chart::arrow_at(chart, n, i);
+        let a = hints::arrow(chart, n, m, i);
         let start = a.start;
         let end = a.end;
-        numbers[start] = either(good[end] == 1, numbers[start], 0);
+        let x = numbers[start];
+        let full = hints::retested(x, visits::TOP + hints::RADIX);
+        numbers[start] = either(good[end] == 1, x, full);
         i += 1;
     }
+}
+
+// The same: where good holds everywhere, nothing is to be done.
+pub fn clear_unsure(chart: &[u8], n: usize, m: usize, good: &[u8], numbers: &mut [u32])
+    requires { ⌜ Passed (now chart) n m × (length (now good) ≡ n) × (length (now numbers) ≡ n) ⌝ }
+    ensures { λ _. ⌜ Sured (now (chart .entry)) n (now (good .entry)) (now (numbers .entry)) (now (numbers .exit)) ⌝ }
+{
+    if all_are(1, good) {
+        return;
+    }
+    clear_each(chart, n, m, good, numbers);
 }

@@ -1,3 +1,3 @@
 pub mod Led
 pub mod Values
-pub mod Bared
+pub mod Low

@@ -1,6 +1,6 @@
 -- Numbers with hints, and their values.
-use mathlib.Core.Path.{_≡_, refl, sym, ap, ap₂}
-use mathlib.Core.List.{List, [], _∷_}
+use mathlib.Core.Path.{_≡_, refl, sym, ap, _∙_}
+use mathlib.Core.List.{List, [], _∷_, map}
 use Prim.Native.Nat.{ℕ, zero, suc, _<_}
 use native.Mathlib.Omega.{arith}
 use lib.ListN.{length, set, length-map, List·getD-map}
@@ -13,12 +13,15 @@ value-at ns s = sym (List·getD-map valueOf ns s 0)
 pub values-length : (ns : List ℕ) → length (values ns) ≡ length ns
 values-length ns = length-map ns valueOf
 
-pub values-set : (ns : List ℕ) (s x : ℕ) {v : ℕ} → valueOf x ≡ v → values (set ns s x) ≡ set (values ns) s v
-values-set [] s x e = refl
-values-set (y ∷ ns) zero x e = ap (λ v. v ∷ values ns) e
-values-set (y ∷ ns) (suc s) x e = ap (λ vs. valueOf y ∷ vs) (values-set ns s x e)
+pub map-set : (f : ℕ → ℕ) (ns : List ℕ) (s x : ℕ) → map f (set ns s x) ≡ set (map f ns) s (f x)
+map-set f [] s x = refl
+map-set f (y ∷ ns) zero x = refl
+map-set f (y ∷ ns) (suc s) x = ap (λ vs. f y ∷ vs) (map-set f ns s x)
 
--- numbers without hints are their values
-pub values-same : (ns : List ℕ) → ((s : ℕ) → s < length ns → num ns s < radix) → values ns ≡ ns
-values-same [] h = refl
-values-same (x ∷ ns) h = ap₂ _∷_ (omega (arith, h 0 (omega arith))) (values-same ns (λ s l. h (suc s) (omega arith)))
+pub num-map : (f : ℕ → ℕ) (ns : List ℕ) (s : ℕ) → s < length ns → num (map f ns) s ≡ f (num ns s)
+num-map f [] s l = absurd (let z : ⊥ = omega arith in z)
+num-map f (y ∷ ns) zero l = refl
+num-map f (y ∷ ns) (suc s) l = num-map f ns s (omega arith)
+
+pub values-set : (ns : List ℕ) (s x : ℕ) {v : ℕ} → valueOf x ≡ v → values (set ns s x) ≡ set (values ns) s v
+values-set ns s x e = map-set valueOf ns s x ∙ ap (set (values ns) s) e

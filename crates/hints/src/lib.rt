@@ -1,18 +1,24 @@
-// Hints: for each state an arrow that it may leave by. It is kept above the value in the state's number, as 131,072
-// times one more than the arrow; a number below 131,072 has none. Nobody takes hints on trust: what is found by them is
-// tested.
+// Numbers with hints: for each state an arrow that it may leave by. From below a number is a value, a side, a mark of
+// walks and a hint, an arrow's number. The side puts a state where no comparison changes it. Nobody takes hints on trust:
+// what is found by them is tested.
 ghost use mathlib.Core.Path.{_≡_};
-ghost use mathlib.Core.Bool.{true, cond};
-ghost use Prim.Native.Nat.{_<_};
+ghost use mathlib.Core.Bool.{Bool, true, cond};
+ghost use Prim.Native.Nat.{ℕ, _+_, _<_};
 ghost use lib.ListN.{length};
 ghost use lib.Dec.{eqb};
-ghost use Rattle.model.specs.Marks.{flag};
-ghost use Rattle.chart.specs.Bytes.{chartOf};
-ghost use Rattle.chart.specs.Shape.{Passed};
+ghost use Rattle.words.specs.Word.{word};
+ghost use Rattle.chart.specs.Bytes.{arrowWords, chartOf};
+ghost use Rattle.chart.specs.Shape.{Small, Inside, Passed};
 ghost use Rattle.hints.specs.Circle.{Circles};
-ghost use Rattle.hints.specs.Values.{radix, valueOf, values};
+ghost use Rattle.hints.specs.Read.{Low, Drawn};
+ghost use Rattle.hints.specs.Values.{sided, valueOf, testedOf, Open};
+use chart::ArrowWords;
 
-pub const RADIX: u32 = 131072;
+pub const RADIX: u32 = 262144;
+
+pub const SIDED: u32 = 524288;
+
+const HINT: u32 = 1048576;
 
 // The value of the number x.
 pub fn value(x: u32) -> u32
@@ -21,58 +27,98 @@ pub fn value(x: u32) -> u32
     x % RADIX
 }
 
-// The value v with the hint of arrow i.
-pub fn hinted(v: u32, i: usize) -> u32
-    requires { ⌜ (v < radix) × (i < 2048) ⌝ }
-    ensures { λ r. ⌜ valueOf r ≡ v ⌝ }
+// The value of the number x with its side.
+pub fn tested(x: u32) -> u32
+    ensures { λ r. ⌜ r ≡ testedOf x ⌝ }
 {
-    (i as u32 + 1) * RADIX + v
+    x % SIDED
 }
 
-// The value v with the hint of the number x.
-pub fn revalued(x: u32, v: u32) -> u32
-    requires { ⌜ v < radix ⌝ }
-    ensures { λ r. ⌜ valueOf r ≡ v ⌝ }
-{
-    x - x % RADIX + v
+// The hint of the number x.
+pub fn hint(x: u32) -> usize {
+    (x / HINT) as usize
 }
 
-// The hints are taken off.
-pub fn bare(numbers: &mut [u32])
-    ensures { λ _. ⌜ now (numbers .exit) ≡ values (now (numbers .entry)) ⌝ }
+// Another value and side, without a mark, and with the hint of the number x.
+pub fn anew(x: u32, t: u32) -> u32
+    requires { ⌜ t < sided ⌝ }
+    ensures { λ r. ⌜ testedOf r ≡ t ⌝ }
 {
-    let mut s = 0;
-    while s < numbers.len() {
-        numbers[s] = value(numbers[s]);
-        s += 1;
+    x - x % HINT + t
+}
+
+// The number x with another value and side.
+pub fn retested(x: u32, t: u32) -> u32
+    requires { ⌜ t < sided ⌝ }
+    ensures { λ r. ⌜ testedOf r ≡ t ⌝ }
+{
+    x - x % SIDED + t
+}
+
+// The number x with another value and side, and with the hint of arrow i.
+pub fn hinted(x: u32, t: u32, i: usize) -> u32
+    requires { ⌜ (t < sided) × (i < 2048) ⌝ }
+    ensures { λ r. ⌜ testedOf r ≡ t ⌝ }
+{
+    x % HINT - x % SIDED + i as u32 * HINT + t
+}
+
+// Whether the number x has the mark.
+pub fn marked(x: u32) -> bool {
+    SIDED <= x % HINT
+}
+
+// The number x with the mark, if it had none, else without.
+pub fn turned(x: u32) -> u32
+    ensures { λ r. ⌜ testedOf r ≡ testedOf x ⌝ }
+{
+    if marked(x) {
+        return x - x % HINT + x % SIDED;
+    }
+    x - x % HINT + x % SIDED + SIDED
+}
+
+// The state at a place, by its low byte.
+fn state_at(chart: &[u8], at: usize) -> usize
+    requires { ⌜ (at + 1 < length (now chart)) × (word (now chart) at < 256) ⌝ }
+    ensures { λ r. ⌜ r ≡ word (now (chart .entry)) at ⌝ }
+{
+    words::wide(chart[at + 1]) as usize
+}
+
+// Arrow i, its states by their low bytes.
+fn low_arrow(chart: &[u8], n: usize, i: usize) -> ArrowWords
+    requires { ⌜ Inside (now chart) n i × Low (arrowWords (now chart) i) ⌝ }
+    ensures { λ r. ⌜ (r ≡ arrowWords (now (chart .entry)) i) × Small r ⌝ }
+{
+    let at = 9 + 2 * n + 8 * i;
+    ArrowWords {
+        start: state_at(chart, at),
+        end: state_at(chart, at + 2),
+        fewest: words::be16(chart, at + 4),
+        most: words::be16(chart, at + 6),
     }
 }
 
-// The hint of the number x: an arrow's number, or one that no arrow has.
-fn hint_of(x: u32) -> usize {
-    if x < RADIX {
-        return 2048;
-    }
-    (x / RADIX - 1) as usize
+// Arrow i of a chart that passed.
+pub fn arrow(chart: &[u8], n: usize, m: usize, i: usize) -> ArrowWords
+    requires { ⌜ Passed (now chart) n m × (i < m) ⌝ }
+    ensures { λ r. ⌜ (r ≡ arrowWords (now (chart .entry)) i) × Drawn n r ⌝ }
+{
+    low_arrow(chart, n, i)
 }
 
-// The state that n arrows lead to, one after the other as the hints say, or fewer where there is no hint.
-pub fn follow(chart: &[u8], n: usize, m: usize, numbers: &[u32], from: usize) -> usize
-    requires { ⌜ Passed (now chart) n m × (length (now numbers) ≡ n) × (from < n) ⌝ }
-    ensures { λ r. ⌜ r < n ⌝ }
+// Each state's hint becomes the last arrow that is listed from it.
+pub fn start(chart: &[u8], n: usize, m: usize, numbers: &mut [u32])
+    requires { ⌜ Passed (now chart) n m × (length (now numbers) ≡ n) ⌝ }
 {
-    let mut at = from;
-    let mut k = 0;
-    while k < n {
-        let i = hint_of(numbers[at]);
-        if m <= i {
-            return at;
-        }
-        let a = chart::arrow_at(chart, n, i);
-        at = a.end;
-        k += 1;
+    let mut i = 0;
+    while i < m {
+        let a = arrow(chart, n, m, i);
+        let s = a.start;
+        numbers[s] = hinted(0, 0, i);
+        i += 1;
     }
-    at
 }
 
 // Time passed before, or can pass on an arrow with the word most.
@@ -85,33 +131,26 @@ fn time_passes(passes: bool, most: u32) -> bool
     passes
 }
 
-// The hints lead from r through go back to r, by so many arrows at most, and time can pass on the way. Whatever the
-// arrows weigh, that is a loop.
-pub fn circles(
-    chart: &[u8],
-    n: usize,
-    m: usize,
-    most: usize,
-    numbers: &[u32],
-    go: &[u8],
-    r: usize,
-) -> bool
-    requires { ⌜ Passed (now chart) n m × (length (now numbers) ≡ n) × (length (now go) ≡ n) × (r < n) ⌝ }
-    ensures { λ b. ⌜ Circles b (chartOf (now (chart .entry))) (flag (now (go .entry))) r ⌝ }
+// The hints lead from r back to r, by so many arrows at most, through states whose numbers have no side, and time can
+// pass on the way. Whatever the arrows weigh, that is a loop.
+pub fn circles(chart: &[u8], n: usize, m: usize, most: usize, numbers: &[u32], r: usize) -> bool
+    requires { ⌜ Passed (now chart) n m × (length (now numbers) ≡ n) × (r < n) ⌝ }
+    ensures { λ b. ⌜ ((go : ℕ → Bool) → Open go (now (numbers .entry)) → Circles b (chartOf (now (chart .entry))) go r) ⌝ }
 {
     let mut at = r;
     let mut passes = false;
     let mut k = 0;
     while k < most {
-        let i = hint_of(numbers[at]);
+        let x = numbers[at];
+        let i = hint(x);
         if m <= i {
             return false;
         }
-        let a = chart::arrow_at(chart, n, i);
+        let a = arrow(chart, n, m, i);
         if a.start != at {
             return false;
         }
-        if go[at] != 1 {
+        if RADIX <= tested(x) {
             return false;
         }
         passes = time_passes(passes, a.most);

@@ -51,34 +51,34 @@ module _ {G : Chart} (dr : Drawn G) (go : ℕ → Bool) (base : ℕ → ℕ) whe
       }
 
   -- a number that an arrow sets is that of the path with the arrow in front, taken in its fewest minutes
-  falling-lower :
-      (a : Arrow) → List·Memᴰ a (G .arrows) → (vs : List ℕ) → Falling G go base vs → Falling G go base (lower go a vs)
-  falling-lower a m vs fall = lower-elim go a vs (Falling G go base) (λ q. fall) sets
+  pub falling-lower :
+      (a : Arrow) → List·Memᴰ a (G .arrows) → {vs : List ℕ} → Falling G go base vs → Yes go (a .start) →
+      a .fewest + num vs (a .end) < num vs (a .start) →
+      Falling G go base (set vs (a .start) (a .fewest + num vs (a .end)))
+  falling-lower a m {vs} fall y h =
+      record {
+        size = length-set vs (a .start) v ∙ fall .size;
+        below =
+            set-elim (λ s x. s < states G → x ≤ base s) vs (a .start) v
+            (λ l. omega (arith, fall .below (a .start) l)) (λ s. fall .below s);
+        found = set-elim (λ s x. s < states G → Cost G go base s x) vs (a .start) v (λ l. new) (λ s. fall .found s);
+      }
     where
       v : ℕ
       v = a .fewest + num vs (a .end)
 
-      sets : Yes go (a .start) → v < num vs (a .start) → Falling G go base (set vs (a .start) v)
-      sets y h =
-          record {
-            size = length-set vs (a .start) v ∙ fall .size;
-            below =
-                set-elim (λ s x. s < states G → x ≤ base s) vs (a .start) v
-                (λ l. omega (arith, fall .below (a .start) l)) (λ s. fall .below s);
-            found = set-elim (λ s x. s < states G → Cost G go base s x) vs (a .start) v (λ l. new) (λ s. fall .found s);
-          }
-        where
-          new : Cost G go base (a .start) v
-          new =
-              let c = fall .found (a .end) (dr .ends a m) in
-              record { worth = c .worth; path = step y (quickest dr a m) (c .path); enough = omega (arith, c .enough) }
+      new : Cost G go base (a .start) v
+      new =
+          let c = fall .found (a .end) (dr .ends a m) in
+          record { worth = c .worth; path = step y (quickest dr a m) (c .path); enough = omega (arith, c .enough) }
 
   -- a sweep over the arrows in any order
   pub falling-round :
       (arrows : List Arrow) → ((a : Arrow) → List·Memᴰ a arrows → List·Memᴰ a (G .arrows)) → (vs : List ℕ) →
       Falling G go base vs → Falling G go base (round (lower go) arrows vs)
   falling-round arrows drawn =
-      round-keeps (lower go) (Falling G go base) arrows (λ a m. falling-lower a (drawn a m))
+      round-keeps (lower go) (Falling G go base) arrows
+      (λ a m vs fall. lower-elim go a vs (Falling G go base) (λ q. fall) (falling-lower a (drawn a m) fall))
 
   -- ── No path comes to less ──
 

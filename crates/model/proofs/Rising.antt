@@ -191,10 +191,14 @@ module _ {G : Chart} (dr : Drawn G) (go : ℕ → Bool) (cap : ℕ) (base : ℕ 
       gain-slow g (q .quicker (omega arith))
 
   -- a number that an arrow sets is that of the path with the arrow in front
-  pub rising-raise :
+  pub rising-offer :
       (leap : Bool) {k : ℕ} → (leap ≡ true → states G ≤ k) → (a : Arrow) → List·Memᴰ a (G .arrows) →
-      (vs : List ℕ) → Rising G go cap base k vs → Rising G go cap base k (raise leap go cap a vs)
-  rising-raise leap {k} late a m vs rise = raise-elim leap go cap a vs (Rising G go cap base k) (λ q. rise) sets
+      {vs : List ℕ} → Rising G go cap base k vs → Yes go (a .start) → 1 ≤ num vs (a .end) →
+      num vs (a .start) < offer cap (a .most) (num vs (a .end)) →
+      Rising G go cap base k (set vs (a .start) (cond leap cap (offer cap (a .most) (num vs (a .end)))))
+  rising-offer leap {k} late a m {vs} rise y i h =
+      cond-elim (λ x. Rising G go cap base k (set vs (a .start) x)) leap to-cap
+      (λ e. rising-set rise (a .start) o h low g)
     where
       v : ℕ
       v = num vs (a .end)
@@ -202,23 +206,35 @@ module _ {G : Chart} (dr : Drawn G) (go : ℕ → Bool) (cap : ℕ) (base : ℕ 
       o : ℕ
       o = offer cap (a .most) v
 
-      sets :
-          Yes go (a .start) → 1 ≤ v → num vs (a .start) < o →
-          Rising G go cap base k (set vs (a .start) (cond leap cap o))
-      sets y i h =
-          cond-elim (λ x. Rising G go cap base k (set vs (a .start) x)) leap to-cap
-          (λ e. rising-set rise (a .start) o h low g)
-        where
-          low : o ≤ cap
-          low = offer-le cap (a .most) v
+      low : o ≤ cap
+      low = offer-le cap (a .most) v
 
-          g : Gain G go base (a .start) o
-          g = gain-step a m y v (rise .backed (a .end) (dr .ends a m) i)
+      g : Gain G go base (a .start) o
+      g = gain-step a m y v (rise .backed (a .end) (dr .ends a m) i)
 
-          to-cap : leap ≡ true → Rising G go cap base k (set vs (a .start) cap)
-          to-cap e =
-              let leaps = gain-leap rise (late e) (a .start) (dr .starts a m) o h low g in
-              rising-set rise (a .start) cap (omega (arith, low)) (omega arith) leaps
+      to-cap : leap ≡ true → Rising G go cap base k (set vs (a .start) cap)
+      to-cap e =
+          let leaps = gain-leap rise (late e) (a .start) (dr .starts a m) o h low g in
+          rising-set rise (a .start) cap (omega (arith, low)) (omega arith) leaps
+
+  pub rising-raise :
+      (leap : Bool) {k : ℕ} → (leap ≡ true → states G ≤ k) → (a : Arrow) → List·Memᴰ a (G .arrows) →
+      (vs : List ℕ) → Rising G go cap base k vs → Rising G go cap base k (raise leap go cap a vs)
+  rising-raise leap {k} late a m vs rise =
+      raise-elim leap go cap a vs (Rising G go cap base k) (λ q. rise) (rising-offer leap late a m rise)
+
+  -- numbers that have what the arrows offer by the list before are one sweep further
+  pub rising-held :
+      {k : ℕ} {vs ws : List ℕ} → Rising G go cap base k vs → Rising G go cap base k ws →
+      ((a : Arrow) → List·Memᴰ a (G .arrows) → Offered go cap a vs ws) → Rising G go cap base (suc k) ws
+  rising-held {vs = vs} {ws} rise r offers =
+      record {
+        size = r .size;
+        above = r .above;
+        capped = r .capped;
+        backed = r .backed;
+        covered = covered-suc vs ws (r .above) offers (rise .covered);
+      }
 
   -- a sweep over the arrows in any order; it may leap to the cap after n sweeps
   pub rising-round :
@@ -226,21 +242,10 @@ module _ {G : Chart} (dr : Drawn G) (go : ℕ → Bool) (cap : ℕ) (base : ℕ 
       ((a : Arrow) → List·Memᴰ a arrows ↔ List·Memᴰ a (G .arrows)) → (vs : List ℕ) → Rising G go cap base k vs →
       Rising G go cap base (suc k) (round (raise leap go cap) arrows vs)
   rising-round leap {k} late arrows same vs rise =
-      record {
-        size = r .size;
-        above = r .above;
-        capped = r .capped;
-        backed = r .backed;
-        covered = covered-suc vs (round (raise leap go cap) arrows vs) (r .above) offers (rise .covered);
-      }
-    where
-      r : Rising G go cap base k (round (raise leap go cap) arrows vs)
-      r =
-          round-keeps (raise leap go cap) (Rising G go cap base k) arrows
-          (λ a m. rising-raise leap late a (same a .0 m)) vs rise
-
-      offers : (a : Arrow) → List·Memᴰ a (G .arrows) → Offered go cap a vs (round (raise leap go cap) arrows vs)
-      offers = round-offers dr go cap leap arrows (λ a. same a .1) vs (rise .size)
+      rising-held rise
+      (round-keeps (raise leap go cap) (Rising G go cap base k) arrows
+      (λ a m. rising-raise leap late a (same a .0 m)) vs rise)
+      (round-offers dr go cap leap arrows (λ a. same a .1) vs (rise .size))
 
   -- ── Numbers that no arrow raises ──
 

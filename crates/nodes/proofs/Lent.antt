@@ -1,26 +1,20 @@
 -- What is lent is what the functions that fill and the engine ask for.
-use mathlib.Core.Path.{_≡_, sym, subst}
-use mathlib.Core.Bool.{Bool, true, false, cond}
-use mathlib.Core.Bool.{not as neg}
+use mathlib.Core.Path.{_≡_, subst}
+use mathlib.Core.Bool.{Bool, true, false}
 use mathlib.Core.List.{List}
 use Prim.Native.Nat.{ℕ, _+_, _*_, _≤_}
 use native.Mathlib.Omega.{arith}
-use Rattle.truth.proofs.Truth.{cond-elim}
-use Rattle.tctl.specs.Tabulate.{tabulate}
-use Rattle.tctl.specs.Chart.{Arrow}
-use Rattle.model.specs.Engine.{Numbers}
-use Rattle.model.specs.Decide.{ask, sureRow}
+use Rattle.model.specs.Weighed.{weighed}
 use Rattle.model.proofs.Marks.{row-below}
-use Rattle.model.proofs.Numbers.{tabulate-numbers}
 use Rattle.model.proofs.Same.{Joins, joins-ticking}
 use Rattle.chart.specs.Bytes.{chartOf}
 use Rattle.chart.specs.Shape.{Passed}
 use Rattle.chart.proofs.Reading.{drawn, has-states}
 use Rattle.rule.specs.declared.NodeWords.{NodeWords}
-use Rattle.model.specs.Weighed.{weighed}
-use Rattle.engine.specs.Change.{highest}
-use Rattle.nodes.specs.Parts.{OperandsBelow}
-use Rattle.nodes.specs.Untils.{sureStart}
+use Rattle.visits.specs.declared.Way.{Way}
+use Rattle.engine.specs.Parts.{Lent as EngineLent}
+use Rattle.nodes.specs.Parts.{Lent, OperandsBelow, Able}
+use Rattle.nodes.proofs.Rows.{lent, lent-length}
 
 -- the arrows join states, and so they do if they weigh ticks
 pub joins :
@@ -36,28 +30,21 @@ joins {chart} {n} passed = weigh
     weigh true = joins-ticking inside
     weigh false = inside
 
--- numbers up to the highest may be lent to the engine
-pub numbered :
-    {n : ℕ} {f : ℕ → ℕ} {vs : List ℕ} → vs ≡ tabulate n f → ((s : ℕ) → f s ≤ highest) → Numbers n highest vs
-numbered {n} {f} e h = subst (Numbers n highest) (sym e) (tabulate-numbers n f h)
-
--- a choice of two is up to what both are up to
-pub cond-le : (b : Bool) {x y cap : ℕ} → x ≤ cap → y ≤ cap → cond b x y ≤ cap
-cond-le b {cap = cap} h k = cond-elim (λ x. x ≤ cap) b (λ e. h) (λ e. k)
-
-pub ends-numbered :
-    {n : ℕ} (cap : ℕ) (end : ℕ → Bool) {vs : List ℕ} → vs ≡ tabulate n (λ s. cond (end s) 0 cap) → cap ≤ highest →
-    Numbers n highest vs
-ends-numbered cap end e h = numbered e (λ s. cond-le (end s) (omega arith) h)
-
-pub sure-numbered :
-    (arrows : List Arrow) (n : ℕ) (p q : ℕ → Bool) (c : ℕ) {vs : List ℕ} → vs ≡ sureStart arrows n p q c → c ≤ highest →
-    Numbers n highest vs
-unfolding sureStart
-sure-numbered arrows n p q c = ends-numbered c (λ s. neg (ask (sureRow arrows n p q) s))
-
 -- the rows of lower nodes lie in a table that holds row t
 pub rows-inside :
     {t : ℕ} {w : NodeWords} (n : ℕ) {count size : ℕ} → OperandsBelow t w → count ≡ n → t * n + n ≤ size →
     (count ≡ n) × (w .a * n + n ≤ size) × (w .b * n + n ≤ size)
 rows-inside n low e h = (e, omega (arith, row-below n (low .left)), omega (arith, row-below n (low .right)))
+
+-- row t, and numbers with sides: what the engine asks for
+pub lent-row :
+    {way way′ : Way} {chart : List ℕ} {n m t : ℕ} {marks numbers : List ℕ} → Lent chart n m t marks numbers →
+    Able way numbers → way ≡ way′ → EngineLent way′ chart n m (lent (t * n) n marks) numbers
+lent-row {chart = chart} {n} {m} {t} {marks} {numbers} l able e =
+    subst (λ w. EngineLent w chart n m (lent (t * n) n marks) numbers) e
+    record {
+      given = record { passed = l .passed; size = l .size; fits = able .fits };
+      wide = lent-length (t * n) n marks (l .table);
+      go = able .go;
+      ready = able .ready;
+    }

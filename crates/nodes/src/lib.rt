@@ -1,38 +1,45 @@
-// Settling one node: its row of marks from the rows of its operands. Row t holds the engine's go marks meanwhile.
-ghost use mathlib.Core.Path.{_≡_};
-ghost use mathlib.Core.Bool.{Bool, cond};
-ghost use Prim.Native.Nat.{ℕ, suc, _+_, _*_, _≤_, _<_};
-ghost use lib.ListN.{length};
+// Settling one node: its row of marks from the rows of its operands. Row t is lent to the engine meanwhile.
+ghost use mathlib.Core.Bool.{Bool, true};
+ghost use Prim.Native.Nat.{ℕ, suc, _≤_, _<_};
 ghost use lib.Dec.{leb};
-ghost use Rattle.tctl.specs.Tabulate.{tabulate};
 ghost use Rattle.tctl.specs.Formula.{atMost, atLeast};
-ghost use Rattle.model.specs.Engine.{num, Numbers, least, greatest};
+ghost use Rattle.model.specs.Engine.{num};
 ghost use Rattle.model.specs.Decide.{ask, someRow, waits, plainRow, allRow, holds};
 ghost use Rattle.model.specs.Marks.{mark};
 ghost use Rattle.chart.specs.Bytes.{chartOf};
-ghost use Rattle.chart.specs.Shape.{Passed};
 ghost use Rattle.rule.specs.Formula.{boundOf, formulaAt};
 ghost use Rattle.model.specs.Weighed.{weighed};
-ghost use Rattle.engine.specs.Change.{highest};
-ghost use Rattle.fill.specs.Fill.{baseOf};
+ghost use Rattle.visits.specs.Way.{highest};
+ghost use Rattle.visits.specs.Moves.{Ready};
+ghost use Rattle.engine.specs.Parts.{Settled};
 ghost use Rattle.fill.specs.Parts.{Wrote};
-ghost use Rattle.nodes.specs.Parts.{Lent, OperandsBelow, Node, Operands};
-ghost use Rattle.nodes.specs.Untils.{through, from, untilRow, sureStart};
+ghost use Rattle.nodes.specs.Parts.{Lent, OperandsBelow, Able, Besides, Node, Operands};
+ghost use Rattle.nodes.specs.Untils.{Suits, Risen, Starts, untilRow};
 use fill::Base;
 use fill::Mix;
 use rule::NodeWords;
+use visits::Climb;
+use visits::Way;
 
-// From which numbers to rise, through which states, by minutes or by ticks, up to which cap.
-struct Ascent {
+// The engine, to which row t is lent and which leaves it as anything.
+fn run(way: Way, chart: &[u8], n: usize, m: usize, t: usize, marks: &mut [u8], numbers: &mut [u32])
+    requires { ⌜ Lent (now chart) n m t (now marks) (now numbers) × Able way (now numbers) ⌝ }
+    ensures { λ _. ⌜ Besides n t (now (marks .entry)) (now (marks .exit))
+        × ((go : ℕ → Bool) → Ready way go (now (numbers .entry)) →
+        Settled way (now (chart .entry)) n go (now (numbers .entry)) (now (numbers .exit))) ⌝ }
+{
+    let at = t * n;
+    let end = at + n;
+    match way {
+        Way::Lower => engine::least(chart, n, m, &mut marks[at..end], numbers),
+        Way::Raise(climb) => engine::greatest(chart, n, m, climb, &mut marks[at..end], numbers),
+    }
+}
+
+// The engine, from a base of the operands' marks.
+fn run_from(
     base: Base,
-    mix: Mix,
-    ticks: bool,
-    cap: u32,
-}
-
-// The greatest numbers of the operands' marks.
-fn climb(
-    way: Ascent,
+    way: Way,
     chart: &[u8],
     n: usize,
     m: usize,
@@ -41,45 +48,13 @@ fn climb(
     marks: &mut [u8],
     numbers: &mut [u32],
 )
-    requires { ⌜ Lent (now chart) n m t (now marks) (now numbers) × OperandsBelow t node ⌝ }
-    requires { ⌜ (way .cap ≤ highest) × ((p q : Bool) → baseOf (way .base) p q ≤ highest) ⌝ }
-    ensures { λ _. ⌜ Wrote n t (through (way .mix) n (now (marks .entry)) node)
-        (now (marks .entry)) (now (marks .exit))
-        × (now (numbers .exit) ≡
-        greatest (weighed (way .ticks) (chartOf (now (chart .entry)) .arrows)) n (way .cap)
-        (through (way .mix) n (now (marks .entry)) node) (from (way .base) n (now (marks .entry)) node)) ⌝ }
+    requires { ⌜ Lent (now chart) n m t (now marks) (now numbers) × OperandsBelow t node × Suits base way ⌝ }
+    ensures { λ _. ⌜ Besides n t (now (marks .entry)) (now (marks .exit))
+        × Risen base way (now (chart .entry)) n
+        (mark n (now (marks .entry)) (node .a)) (mark n (now (marks .entry)) (node .b)) (now (numbers .exit)) ⌝ }
 {
-    let base = way.base;
-    let mix = way.mix;
     fill::fill_numbers(base, n, node.a, node.b, marks, numbers);
-    fill::fill(mix, n, t, node.a, node.b, marks);
-    let at = t * n;
-    let end = at + n;
-    engine::greatest(chart, n, m, way.ticks, way.cap, &marks[at..end], numbers);
-}
-
-// The least numbers, from 0 at each end and a cap elsewhere, through a mix of the operands' marks.
-fn descend(
-    mix: Mix,
-    chart: &[u8],
-    n: usize,
-    m: usize,
-    t: usize,
-    node: NodeWords,
-    marks: &mut [u8],
-    numbers: &mut [u32],
-)
-    requires { ⌜ Passed (now chart) n m × (t * n + n ≤ length (now marks)) ⌝ }
-    requires { ⌜ OperandsBelow t node × Numbers n highest (now numbers) ⌝ }
-    ensures { λ _. ⌜ Wrote n t (through mix n (now (marks .entry)) node) (now (marks .entry)) (now (marks .exit))
-        × ((cap : ℕ) (end : ℕ → Bool) → now (numbers .entry) ≡ tabulate n (λ s. cond (end s) 0 cap) →
-        now (numbers .exit) ≡
-        least (chartOf (now (chart .entry)) .arrows) n cap (through mix n (now (marks .entry)) node) end) ⌝ }
-{
-    fill::fill(mix, n, t, node.a, node.b, marks);
-    let at = t * n;
-    let end = at + n;
-    engine::least(chart, n, m, &marks[at..end], numbers);
+    run(way, chart, n, m, t, marks, numbers);
 }
 
 // E(a until b, at most c): the fewest minutes to b, through a.
@@ -99,9 +74,18 @@ fn some_at_most(
         (now (marks .entry)) (now (marks .exit)) ⌝ }
 {
     let far = node.c + 1;
-    fill::fill_numbers(Base::Reach(far), n, node.a, node.b, marks, numbers);
-    descend(Mix::First, chart, n, m, t, node, marks, numbers);
-    fill::judge(false, node.c, n, t, numbers, marks);
+    run_from(
+        Base::Reach(far),
+        Way::Lower,
+        chart,
+        n,
+        m,
+        t,
+        node,
+        marks,
+        numbers,
+    );
+    fill::judge(true, visits::TOP - far, n, t, numbers, marks);
 }
 
 // E(a until b, at least c): the most minutes to b, through a.
@@ -121,13 +105,12 @@ fn some_at_least(
         (now (marks .entry)) (now (marks .exit)) ⌝ }
 {
     let cap = node.c + 1;
-    let way = Ascent {
-        base: Base::Goal,
-        mix: Mix::First,
+    let way = Way::Raise(Climb {
         ticks: false,
+        leap: false,
         cap,
-    };
-    climb(way, chart, n, m, t, node, marks, numbers);
+    });
+    run_from(Base::Goal(cap), way, chart, n, m, t, node, marks, numbers);
     fill::judge(true, node.c, n, t, numbers, marks);
 }
 
@@ -150,18 +133,17 @@ fn unhindered(
         (now (marks .entry)) (now (marks .exit)) ⌝ }
 {
     let cap = limit + 1;
-    let way = Ascent {
-        base: Base::Fail(cap),
-        mix: Mix::Waiting,
+    let way = Way::Raise(Climb {
         ticks,
+        leap: false,
         cap,
-    };
-    climb(way, chart, n, m, t, node, marks, numbers);
+    });
+    run_from(Base::Fail(cap), way, chart, n, m, t, node, marks, numbers);
     fill::judge(false, limit, n, t, numbers, marks);
 }
 
 // What A(a until b, at least c) starts from: c where a holds and every arrow leads to where the until with no bound
-// can't fail, else 0.
+// can't fail, else 0. Where that until holds nowhere, the answer is no and nothing else is told.
 fn sure_start(
     chart: &[u8],
     n: usize,
@@ -170,21 +152,25 @@ fn sure_start(
     node: NodeWords,
     marks: &mut [u8],
     numbers: &mut [u32],
-)
-    requires { ⌜ Lent (now chart) n m t (now marks) (now numbers) × OperandsBelow t node ⌝ }
-    ensures { λ _. ⌜ Wrote n t
+) -> bool
+    requires { ⌜ Lent (now chart) n m t (now marks) (now numbers) × OperandsBelow t node × (node .c < 65536) ⌝ }
+    ensures { λ r. ⌜ Wrote n t
         (ask (plainRow (chartOf (now (chart .entry)) .arrows) n
         (mark n (now (marks .entry)) (node .a)) (mark n (now (marks .entry)) (node .b))))
         (now (marks .entry)) (now (marks .exit))
-        × (now (numbers .exit) ≡
-        sureStart (chartOf (now (chart .entry)) .arrows) n
-        (mark n (now (marks .entry)) (node .a)) (mark n (now (marks .entry)) (node .b)) (node .c)) ⌝ }
+        × Starts r (chartOf (now (chart .entry)) .arrows) n
+        (mark n (now (marks .entry)) (node .a)) (mark n (now (marks .entry)) (node .b)) (node .c)
+        (now (numbers .exit)) ⌝ }
 {
     unhindered(true, n as u32, chart, n, m, t, node, marks, numbers);
-    fill::fill_numbers(Base::Stay(node.c), n, node.a, node.b, marks, numbers);
     let at = t * n;
     let end = at + n;
+    if fill::all_are(0, &marks[at..end]) {
+        return false;
+    }
+    fill::fill_numbers(Base::Stay(node.c), n, node.a, node.b, marks, numbers);
     fill::clear_unsure(chart, n, m, &marks[at..end], numbers);
+    true
 }
 
 // A(a until b, at least c), c above 0: no run comes, before c minutes, to a state that isn't sure.
@@ -204,9 +190,11 @@ fn all_at_least(
         (mark n (now (marks .entry)) (node .a)) (mark n (now (marks .entry)) (node .b))))
         (now (marks .entry)) (now (marks .exit)) ⌝ }
 {
-    sure_start(chart, n, m, t, node, marks, numbers);
-    descend(Mix::Yes, chart, n, m, t, node, marks, numbers);
-    fill::judge(true, node.c - 1, n, t, numbers, marks);
+    if !sure_start(chart, n, m, t, node, marks, numbers) {
+        return;
+    }
+    run(Way::Lower, chart, n, m, t, marks, numbers);
+    fill::judge(false, visits::TOP - node.c, n, t, numbers, marks);
 }
 
 // An until, by its operation, its kind of bound and c.

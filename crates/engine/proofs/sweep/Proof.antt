@@ -1,58 +1,70 @@
--- Invariant: the first i arrows were tried.
-use mathlib.Core.Path.{sym, _∙_}
-use Prim.Native.Nat.{_≤_, _-_}
+-- Invariant: the arrows from i on were tried.
+use mathlib.Core.Path.{_≡_}
+use mathlib.Core.Bool.{Bool}
+use Prim.Native.Nat.{ℕ, _≤_, _<_}
 use native.Mathlib.Omega.{arith}
-use denote.Ref.{now}
-use Rattle.engine.specs.Change.{seen}
-use Rattle.engine.proofs.Lent.{lent-size, seen-length}
-use Rattle.engine.proofs.Tried.{Tried, turned-below, tried-none, tried-more, tried-lent, tried-all}
+use lib.ListN.{length}
+use Rattle.visits.specs.Moves.{Ready}
+use Rattle.visits.proofs.Went.{given-still}
+use Rattle.engine.proofs.Swept.{Swept, swept-none, swept-quiet, swept-more}
 use Rattle.engine.proofs.sweep.Statement.{statement}
 use Rattle.engine.proofs.sweep.Tie as tie
 
 abbrev Inv-loop : tie.InvT-loop
-Inv-loop change back chart n m go numbers₀ last₀ i₀ numbers last i =
-    (i ≤ m) × Tried change back go chart m i last (seen change numbers₀) (seen change numbers)
+Inv-loop way chart n m numbers₀ any₀ i₀ numbers any i =
+    (i ≤ m) × (length numbers ≡ n) ×
+    ((go : ℕ → Bool) → Ready way go numbers₀ → Swept way chart m go i any numbers₀ numbers)
 
 abbrev μ-loop : tie.MeasureT-loop
-μ-loop change back chart n m go numbers₀ last₀ i₀ numbers last i = m - i
+μ-loop way chart n m numbers₀ any₀ i₀ numbers any i = i
+
+-- the stops: the loop's head, and the start
+abbrev head : tie.After-last-raising Inv-loop μ-loop → tie.At-loop Inv-loop μ-loop
+head c = c .before .before
+
+abbrev start : tie.At-loop Inv-loop μ-loop → tie.Start Inv-loop μ-loop
+start c = c .before .before .before
 
 loop-holds : tie.Need-loop-holds Inv-loop μ-loop
-loop-holds c = (omega arith, tried-none)
+loop-holds c = (omega arith, c .before .before .pre .size, λ go r. swept-none r)
 
-turn-requires : tie.Need-turn-requires Inv-loop μ-loop
-turn-requires c κs = c .loop-test .taken
+last-raising-requires : tie.Need-last-raising-requires Inv-loop μ-loop
+last-raising-requires c κs =
+    let at-loop = c .before in
+    (given-still (start at-loop .pre) (at-loop .loop .inv .1), at-loop .loop .inv .0)
 
-step-requires : tie.Need-step-requires Inv-loop μ-loop
-step-requires c κs =
-    let turned = c .before in
-    let at-loop = turned .before .before in
-    let start = at-loop .before .before .before .before in
-    let a = start .args in
-    let below = turned-below (a .back) (a .m) (at-loop .loop .i) (turned .before .loop-test .taken) in
-    let lent = tried-lent (start .pre .1) (start .pre .0) (at-loop .loop .inv .1) in
-    (lent, start .pre .1, omega (arith, turned .turn .ensures, below))
+returns : tie.Need-returns Inv-loop μ-loop
+returns c go r =
+    let t = swept-quiet (head (c .before) .loop .inv .2 go r) (c .before .last-raising .ensures) in
+    (t .went, λ k l. t .held k (omega (arith, c .if1 .taken)) l)
+
+renew-requires : tie.Need-renew-requires Inv-loop μ-loop
+renew-requires c κs =
+    let found = c .before .before in
+    let inv = head found .loop .inv in
+    (given-still (start (head found) .pre) (inv .1), omega (arith, inv .0, found .last-raising .ensures .inside, c .before .if1 .left))
+
+loop-less : tie.Need-loop-less Inv-loop μ-loop
+loop-less c =
+    let test = c .before .before .before .before in
+    omega (arith, test .before .last-raising .ensures .inside, test .if1 .left)
 
 loop-again : tie.Need-loop-again Inv-loop μ-loop
 loop-again c =
-    let stepped = c .before .before .before in
-    let turned = stepped .before .before in
-    let inv = turned .before .before .loop .inv in
-    (omega arith, rw (c .later .ensures) (tried-more (inv .1) (rw (turned .turn .ensures) at (stepped .step .ensures))))
-
-same-length : tie.Need-same-length Inv-loop μ-loop
-same-length c =
-    let at-loop = c .before in
-    let start = at-loop .before .before .before .before in
-    let p = start .pre in
-    let change = start .args .change in
-    let same = lent-size (p .0) (tried-lent (p .1) (p .0) (at-loop .loop .inv .1)) in
-    sym (seen-length change (at-loop .loop .numbers)) ∙ (same ∙ seen-length change (now (start .args .numbers)))
-
-returns : tie.Need-returns Inv-loop μ-loop
-returns c = tried-all (omega (arith, c .before .loop .inv .0)) (c .before .loop .inv .1)
+    let called = c .before .before in
+    let test = called .before .before in
+    let found = test .before in
+    let inv = head found .loop .inv in (
+      omega (arith, inv .0, found .last-raising .ensures .inside),
+      omega (arith, inv .1),
+      λ go r.
+          let t = swept-quiet (inv .2 go r) (found .last-raising .ensures) in
+          swept-more (omega (arith, test .if1 .left)) t (called .renew .ensures go (t .went .ready)),
+    )
 
 pub sweep-spec : {M : Type 1} → statement M
 sweep-spec =
     tie.close
-    (tie.spec Inv-loop μ-loop loop-holds turn-requires step-requires (λ c κs. tt) (λ c. omega arith)
-    (λ c. omega arith) loop-again same-length returns)
+    (tie.spec Inv-loop μ-loop loop-holds last-raising-requires
+    (λ c. omega (arith, head (c .before) .loop .inv .1, start (head (c .before)) .pre .size)) returns
+    (λ c. omega (arith, c .if1 .left)) renew-requires loop-less loop-again)

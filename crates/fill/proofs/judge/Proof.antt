@@ -1,7 +1,9 @@
 -- Invariant: the marks before s are written.
+use mathlib.Core.Path.{ap, _∙_}
 use Prim.Native.Nat.{_*_, _≤_, _-_}
 use native.Mathlib.Omega.{arith}
 use Rattle.model.specs.Engine.{num}
+use Rattle.hints.specs.Values.{valueOf}
 use Rattle.fill.specs.Fill.{judged}
 use Rattle.fill.specs.Parts.{Written}
 use Rattle.fill.proofs.Written.{written-none, written-more, written-all}
@@ -10,7 +12,7 @@ use Rattle.fill.proofs.judge.Tie as tie
 
 abbrev Inv-loop : tie.InvT-loop
 Inv-loop above limit n t numbers marks₀ at s₀ marks s =
-    (s ≤ n) × Written (t * n) s (λ v. judged above limit (num numbers v)) marks₀ marks
+    (s ≤ n) × Written (t * n) s (λ v. judged above limit (valueOf (num numbers v))) marks₀ marks
 
 abbrev μ-loop : tie.MeasureT-loop
 μ-loop above limit n t numbers marks₀ at s₀ marks s = n - s
@@ -20,8 +22,11 @@ loop-holds c = (omega arith, written-none)
 
 loop-again : tie.Need-loop-again Inv-loop μ-loop
 loop-again c =
-    let at-loop = c .before .before .before in
-    (omega arith, written-more (at-loop .loop .inv .1) (omega arith) (c .verdict .ensures))
+    let read = c .before in
+    let at-loop = read .before .before .before in
+    let start = at-loop .before .before .before in
+    let e = ap (judged (start .args .above) (start .args .limit)) (read .value .ensures) in
+    (omega arith, written-more (at-loop .loop .inv .1) (omega arith) (c .verdict .ensures ∙ e))
 
 same-length : tie.Need-same-length Inv-loop μ-loop
 same-length c = c .before .loop .inv .1 .size
@@ -33,5 +38,5 @@ pub judge-spec : {M : Type 1} → statement M
 judge-spec =
     tie.close
     (tie.spec Inv-loop μ-loop (λ c. omega arith) loop-holds (λ c. omega arith) (λ c. omega arith) (λ c κs. tt)
-    (λ c. tt) (λ c. omega arith) (λ c. omega arith) (λ c. omega arith) (λ c. omega arith) loop-again same-length
-    returns)
+    (λ c κs. tt) (λ c. tt) (λ c. omega arith) (λ c. omega arith) (λ c. omega arith) (λ c. omega arith) loop-again
+    same-length returns)

@@ -1,34 +1,58 @@
--- The sweeps go through every state, from a sure start.
+-- The numbers fall through every state, from a sure start, if there is one.
+use mathlib.Core.Bool.{true}
 use native.Mathlib.Omega.{arith}
+use borrow.Author.Tests.{not-true, not-false}
 use borrow.Author.Needs.{needs}
-use Rattle.nodes.specs.Untils.{sureStart}
-use Rattle.nodes.proofs.Rows.{written-as, written-again}
-use Rattle.nodes.proofs.Lent.{sure-numbered}
+use Rattle.nodes.proofs.Rows.{written-as, written-again, wrote-besides}
 use Rattle.nodes.proofs.Untils.{all-at-least}
+use Rattle.nodes.proofs.NoneSure.{none-at-least}
 use Rattle.nodes.proofs.all_at_least.Statement.{statement}
 use Rattle.nodes.proofs.all_at_least.Tie as tie
 
-descend-requires : tie.Need-descend-requires
-descend-requires c κs =
-    let sure = c .before .before .before .before .before .before in
-    let p = sure .before .before .before .before .before .before .pre in
-    let vs = sure-numbered _ _ _ _ _ (sure .sure-start .ensures .1) (omega (arith, p .1 .0)) in
-    ((p .0 .0 .passed, omega (arith, sure .sure-start .ensures .0 .size, p .0 .0 .table)), (p .0 .1, vs))
+-- the stops: where the answer is known, and the start
+abbrev sure : tie.Else1 → tie.After-sure-start
+sure c = c .before .before .before .before .before
+
+abbrev start : tie.After-sure-start → tie.Start
+start c = c .before .before .before .before .before .before
 
 returns : tie.Need-returns
-unfolding sureStart
 returns c =
+    let from = c .before .before .before .before .before in
+    let p = start from .pre in
+    written-as (from .sure-start .ensures .0)
+    (none-at-least (p .0 .0 .passed) _ _ (from .sure-start .ensures .1 .nowhere (not-true _ (c .if1 .taken))) _
+    (p .1 .1))
+
+run-requires : tie.Need-run-requires
+run-requires c κs =
+    let else = c .before .before in
+    let from = sure else in
+    let p = start from .pre in (
+      record {
+        passed = p .0 .0 .passed;
+        table = omega (arith, from .sure-start .ensures .0 .size, p .0 .0 .table);
+        size = search needs;
+      },
+      record { fits = tt; go = λ s. true; ready = from .sure-start .ensures .1 .ready (not-false _ (else .if1 .left)) },
+    )
+
+returns-2 : tie.Need-returns-2
+returns-2 c =
     let judged = c .before .before in
-    let fell = judged .before .before .before .before .before .before .before .before in
-    let sure = fell .before .before .before .before .before .before .before in
-    let p = sure .before .before .before .before .before .before .pre in
-    written-again (sure .sure-start .ensures .0)
-    (written-again (fell .descend .ensures .0)
+    let ran = judged .before .before .before .before .before .before .before .before in
+    let else = ran .before .before .before in
+    let p = start (sure else) .pre in
+    let from = sure else .sure-start .ensures in
+    let yes = not-false _ (else .if1 .left) in
+    written-again (wrote-besides (from .0))
+    (written-again (ran .run .ensures .0)
     (written-as (judged .judge .ensures)
-    (all-at-least _ _ _ _ _ (p .1 .1) (fell .descend .ensures .1 _ _ (sure .sure-start .ensures .1)))))
+    (all-at-least _ _ _ (search needs) (p .1 .1) (omega (arith, p .1 .0)) (from .1 .is yes)
+    (ran .run .ensures .1 _ (from .1 .ready yes)))))
 
 pub all-at-least-spec : {M : Type 1} → statement M
 all-at-least-spec =
     tie.close
-    (tie.spec (λ c κs. search needs) descend-requires (λ c. search needs) (λ c κs. search needs) (λ c. search needs)
-    (λ c. search needs) returns)
+    (tie.spec (λ c κs. search needs) (λ c. search needs) (λ c. search needs) returns run-requires (λ c. search needs)
+    (λ c κs. search needs) (λ c. search needs) (λ c. search needs) returns-2)

@@ -1,0 +1,70 @@
+-- Numbers filled with values and their sides: they are ready for the engine, and those are their values.
+use mathlib.Core.Path.{_≡_, sym, ap, _∙_}
+use mathlib.Core.Bool.{Bool, true, false, _||_}
+use mathlib.Core.List.{List}
+use Prim.Native.Nat.{ℕ, _≤_, _<_}
+use native.Mathlib.Omega.{arith}
+use Rattle.tctl.specs.Tabulate.{tabulate}
+use Rattle.tctl.proofs.Tabulate.{tabulate-ext}
+use Rattle.model.specs.Engine.{num}
+use Rattle.model.proofs.Numbers.{tabulate-numbers}
+use Rattle.hints.specs.Values.{valueOf, testedOf, values}
+use Rattle.hints.proofs.Values.{value-at, values-length}
+use Rattle.visits.specs.declared.Way.{Way}
+use Rattle.visits.specs.Way.{highest, top, ceilingOf, sideOf, beside}
+use Rattle.visits.specs.Moves.{Ready}
+use Rattle.fill.specs.declared.Base.{Base}
+use Rattle.fill.specs.declared.Base.the-variants.{Reach, Goal, Fail, Stay}
+use Rattle.fill.specs.Fill.{capOf, startOf, goOf, limitOf, baseOf, placedOf}
+use Rattle.fill.specs.Parts.{Filled}
+use Rattle.fill.proofs.Choice.{cond-le}
+
+-- a value up to the top, with or without a side
+beside-value : (b : Bool) {u : ℕ} (x : ℕ) → testedOf x ≡ beside u b → u ≤ top → valueOf x ≡ u
+beside-value true x e l = omega (arith, e)
+beside-value false x e l = omega (arith, e)
+
+-- numbers with the values v: through go they are ready
+pub record Begun (way : Way) (go : ℕ → Bool) (n : ℕ) (v : ℕ → ℕ) (ns : List ℕ) : Type 0 where
+  pub ready : Ready way go ns
+  pub starts : values ns ≡ tabulate n v
+
+pub filled-begun :
+    (way : Way) (go : ℕ → Bool) (v : ℕ → ℕ) {n : ℕ} {f : ℕ → ℕ} {ns : List ℕ} → ((s : ℕ) → v s ≤ top) →
+    ((s : ℕ) → s < n → f s ≡ beside (v s) (sideOf way go s (v s))) → Filled n f ns → Begun way go n v ns
+filled-begun way go v {n} {ns = ns} low is filled = record { ready = ready; starts = starts }
+  where
+    value : (s : ℕ) → s < n → valueOf (num ns s) ≡ v s
+    value s l = beside-value (sideOf way go s (v s)) (num ns s) (filled .here s l ∙ is s l) (low s)
+
+    starts : values ns ≡ tabulate n v
+    starts =
+        tabulate-ext n v 0 (values ns) (values-length ns ∙ filled .size) (λ s l. sym (value-at ns s) ∙ value s l)
+
+    ready : Ready way go ns
+    ready =
+        record {
+          sides =
+              λ s l.
+              let k : s < n = omega (arith, filled .size) in
+              filled .here s k ∙ is s k ∙ ap (λ u. beside u (sideOf way go s u)) (sym (value s k));
+          within =
+              λ s.
+              omega (arith, value-at ns s, ap (λ vs. num vs s) starts, tabulate-numbers n v low .capped s);
+        }
+
+-- no value of a base is above the top
+start-low : (base : Base) (p q : Bool) → capOf base ≤ highest → startOf base p q ≤ top
+start-low (Reach cap) p q h = cond-le q (omega arith) (omega arith)
+start-low (Goal cap) p q h = cond-le q (omega arith) (omega arith)
+start-low (Fail cap) p q h = cond-le (p || q) (omega arith) (omega arith)
+start-low (Stay cap) p q h = cond-le p (omega arith) (omega arith)
+
+pub base-begun :
+    (base : Base) (p q : ℕ → Bool) (way : Way) {n : ℕ} {ns : List ℕ} → capOf base ≤ highest →
+    limitOf base ≡ ceilingOf way → Filled n (λ s. baseOf base (p s) (q s)) ns →
+    Begun way (λ s. goOf base (p s) (q s)) n (λ s. startOf base (p s) (q s)) ns
+base-begun base p q way low limit =
+    filled-begun way (λ s. goOf base (p s) (q s)) (λ s. startOf base (p s) (q s))
+    (λ s. start-low base (p s) (q s) low)
+    (λ s l. ap (placedOf (startOf base (p s) (q s)) (goOf base (p s) (q s))) limit)

@@ -1,0 +1,46 @@
+-- Invariant: the numbers are as many as they were.
+use mathlib.Core.Path.{_≡_}
+use Prim.Native.Nat.{_≤_, _-_}
+use native.Mathlib.Omega.{arith}
+use lib.ListN.{length, length-set}
+use Rattle.chart.proofs.Reading.{shaped}
+use Rattle.hints.proofs.start.Statement.{statement}
+use Rattle.hints.proofs.start.Tie as tie
+
+abbrev Inv-loop : tie.InvT-loop
+Inv-loop chart n m numbers₀ i₀ numbers i = (i ≤ m) × (length numbers ≡ n)
+
+abbrev μ-loop : tie.MeasureT-loop
+μ-loop chart n m numbers₀ i₀ numbers i = m - i
+
+-- where an arrow was read
+abbrev read : tie.After-hinted Inv-loop μ-loop → tie.After-arrow Inv-loop μ-loop
+read c = c .before
+
+loop-holds : tie.Need-loop-holds Inv-loop μ-loop
+loop-holds c = (omega arith, c .before .before .pre .1)
+
+hinted-requires : tie.Need-hinted-requires Inv-loop μ-loop
+hinted-requires c κs =
+    let at-loop = c .before .before in
+    (omega arith, omega (arith, c .before .loop-test .taken, shaped (at-loop .before .before .before .pre .0) .few-arrows))
+
+mul-numbers : tie.Need-mul-numbers Inv-loop μ-loop
+mul-numbers c =
+    let at-loop = read c .before .before in
+    omega (arith, read c .arrow .ensures .1 .start, shaped (at-loop .before .before .before .pre .0) .few-states)
+
+slice-write-numbers : tie.Need-slice-write-numbers Inv-loop μ-loop
+slice-write-numbers c = omega (arith, read c .arrow .ensures .1 .start, read c .before .before .loop .inv .1)
+
+loop-again : tie.Need-loop-again Inv-loop μ-loop
+loop-again c = (omega arith, simp length-set (read c .before .before .loop .inv .1))
+
+same-length : tie.Need-same-length Inv-loop μ-loop
+same-length c = omega (arith, c .before .loop .inv .1, c .before .before .before .before .pre .1)
+
+pub start-spec : {M : Type 1} → statement M
+start-spec =
+    tie.close
+    (tie.spec Inv-loop μ-loop loop-holds (λ c κs. (c .before .before .before .before .pre .0, c .loop-test .taken)) hinted-requires
+    mul-numbers slice-write-numbers (λ c. omega arith) (λ c. omega arith) loop-again same-length (λ c. tt))

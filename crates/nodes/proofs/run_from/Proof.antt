@@ -1,0 +1,68 @@
+-- The numbers are filled from the marks as they came, and are ready to rise from there.
+use mathlib.Core.Path.{ap, _∙_}
+use mathlib.Core.Bool.{Bool}
+use Prim.Native.Nat.{ℕ}
+use borrow.Author.Needs.{needs}
+use denote.Ref.{now}
+use Rattle.model.specs.Marks.{mark}
+use Rattle.engine.specs.Parts.{minutesOf, settled}
+use Rattle.fill.specs.Fill.{startOf, goOf}
+use Rattle.fill.proofs.Sided.{Begun, base-begun}
+use Rattle.nodes.proofs.Lent.{rows-inside}
+use Rattle.nodes.proofs.run_from.Statement.{statement}
+use Rattle.nodes.proofs.run_from.Tie as tie
+
+-- where the numbers are filled
+module _ (c : tie.After-fill-numbers) where
+  abbrev start : tie.Start
+  start = c .before .before .before .before .before .before
+
+  -- the marks of the operands
+  abbrev p : ℕ → Bool
+  p = mark (start .args .n) (now (start .args .marks)) (start .args .node .a)
+
+  abbrev q : ℕ → Bool
+  q = mark (start .args .n) (now (start .args .marks)) (start .args .node .b)
+
+  -- the states to go through
+  abbrev go : ℕ → Bool
+  go s = goOf (start .args .base) (p s) (q s)
+
+  begun :
+      let a = start .args in
+      Begun (a .way) go (a .n) (λ s. startOf (a .base) (p s) (q s)) (c .fill-numbers .last .1 .1 .1 .1 .1 .0)
+  begun =
+      let suits = start .pre .2 in
+      base-begun (start .args .base) p q (start .args .way) (suits .low) (suits .limit) (c .fill-numbers .ensures)
+
+fill-numbers-requires : tie.Need-fill-numbers-requires
+fill-numbers-requires c κs =
+    let p = c .before .before .before .before .before .pre in
+    (rows-inside _ (p .1) (p .0 .size) (p .0 .table), p .2 .low)
+
+run-requires : tie.Need-run-requires
+run-requires c κs =
+    let filled = c .before .before .before .before in
+    let p = start filled .pre in (
+      record { passed = p .0 .passed; table = p .0 .table; size = filled .fill-numbers .ensures .size },
+      record { fits = p .2 .fits; go = go filled; ready = begun filled .ready },
+    )
+
+returns : tie.Need-returns
+returns c =
+    let ran = c .before .before .before .before in
+    let filled = ran .before .before .before .before .before in
+    let a = start filled .args in (
+      ran .run .ensures .0,
+      record {
+        size = search needs;
+        is =
+            ran .run .ensures .1 (go filled) (begun filled .ready) .is ∙
+            ap (λ vs. settled (a .way) (now (a .chart)) (a .n) (go filled) (minutesOf (a .way) vs))
+            (begun filled .starts);
+      },
+    )
+
+pub run-from-spec : {M : Type 1} → statement M
+run-from-spec =
+    tie.close (tie.spec fill-numbers-requires run-requires (λ c. search needs) (λ c. search needs) returns)

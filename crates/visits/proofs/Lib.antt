@@ -1,0 +1,8 @@
+pub mod Weights
+pub mod Offer
+pub mod Reaching
+pub mod Moved
+pub mod Went
+pub mod Tested
+pub mod Tried
+pub mod Round
