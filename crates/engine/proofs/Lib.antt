@@ -4,3 +4,4 @@ pub mod Runs
 pub mod Descent
 pub mod Ascent
 pub mod OnTheWay
+pub mod Resting

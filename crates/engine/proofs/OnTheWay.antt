@@ -1,25 +1,26 @@
 -- Numbers on either way, after k sweeps; in the end they are the model's.
-use mathlib.Core.Path.{_≡_, refl, subst, _∙_}
-use mathlib.Core.Bool.{Bool, true, false}
+use mathlib.Core.Path.{_≡_, refl, sym, subst, _∙_}
+use mathlib.Core.Bool.{Bool, true, false, cond}
 use mathlib.Core.List.{List}
 use Prim.Native.Nat.{ℕ, suc, _≤_, _<_}
 use native.Mathlib.Omega.{arith}
 use lib.ListN.{length}
+use Rattle.tctl.specs.Chart.{Arrow}
 use Rattle.model.specs.Engine.{num}
 use Rattle.chart.specs.Bytes.{chartOf}
 use Rattle.chart.specs.Shape.{Passed}
 use Rattle.chart.proofs.Reading.{arrow-ends}
 use Rattle.model.specs.Weighed.{weighedChart}
 use Rattle.model.proofs.Rising.{Rising}
-use Rattle.hints.specs.Values.{radix, testedOf, values}
+use Rattle.hints.specs.Values.{values}
 use Rattle.hints.proofs.Values.{value-at, values-length}
 use Rattle.visits.specs.declared.Way.{Way}
 use Rattle.visits.specs.declared.Way.the-variants.{Lower, Raise}
-use Rattle.visits.specs.Way.{ceilingOf, Fits}
+use Rattle.visits.specs.Way.{ceilingOf, Fits, offerOf}
 use Rattle.visits.specs.Moves.{Ready, arrowAt, Held, Moved, left, Went}
-use Rattle.visits.proofs.Tested.{sided-held}
 use Rattle.visits.proofs.Went.{went-left, went-held}
-use Rattle.engine.specs.Parts.{hurriedOf, Settled, Sweeps, Runs}
+use Rattle.engine.specs.Parts.{hurriedOf, Settled, Still, AtRest, Sweep, Sweeps, Runs}
+use Rattle.engine.specs.declared.Tally.{Tally}
 use Rattle.engine.proofs.Descent.{Falls, falls-none, falls-moved, falls-all}
 use Rattle.engine.proofs.Ascent.{rises-none, rises-less, rises-moved, rises-swept, rises-all}
 
@@ -52,6 +53,26 @@ ready-slow : (way : Way) (b : Bool) {go : ℕ → Bool} {ns : List ℕ} → Read
 unfolding ceilingOf
 ready-slow Lower b r = r
 ready-slow (Raise climb) b r = record { sides = r .sides; within = r .within }
+
+held-hurried :
+    (way : Way) (b : Bool) {go : ℕ → Bool} {a : Arrow} {us vs : List ℕ} → Held way go a us vs → Held (hurriedOf way b) go a us vs
+unfolding offerOf
+held-hurried Lower b h = h
+held-hurried (Raise climb) b h = record { is = h .is }
+
+held-slow :
+    (way : Way) (b : Bool) {go : ℕ → Bool} {a : Arrow} {us vs : List ℕ} → Held (hurriedOf way b) go a us vs → Held way go a us vs
+unfolding offerOf
+held-slow Lower b h = h
+held-slow (Raise climb) b h = record { is = h .is }
+
+-- what is known of arrows before the floor holds unless a value changed
+pub still-kept :
+    (way : Way) (chart : List ℕ) (go : ℕ → Bool) (floor : ℕ) (moved : Bool) {us vs : List ℕ} →
+    (moved ≡ false → vs ≡ us) → Still way chart go 0 floor us → {k : ℕ} → k ≡ cond moved 0 floor → Still way chart go 0 k vs
+still-kept way chart go floor true e h f i z l = absurd (let y : ⊥ = omega (arith, f) in y)
+still-kept way chart go floor false e h f i z l =
+    subst (λ vs. Held way go (arrowAt chart i) vs vs) (sym (e refl)) (h i z (omega (arith, f)))
 
 module _
     (way : Way) {chart : List ℕ} {n m : ℕ} (p : Passed chart n m) (go : ℕ → Bool) (old : List ℕ) (size : length old ≡ n) where
@@ -94,46 +115,56 @@ module _
   end Lower k b new f held = record { is = falls-all p go (values old) known f held }
   end (Raise climb) k b new f held = record { is = rises-all p go _ (values old) known f held }
 
+  -- numbers that no arrow raises are the model's
+  pub way-rest :
+      {k : ℕ} {r : Bool} (new : List ℕ) → r ≡ true → Fits way → length new ≡ n → OnTheWay way chart go k old new →
+      AtRest r way new → Settled way chart n go old new
+  way-rest {k} new e fits same u rest =
+      end way k false new (u .model)
+      (λ i l.
+      let ends = arrow-ends p i l in
+      held-hurried way false
+      (rest .held e fits go (u .ready) (arrowAt chart i) (omega (arith, same, ends .0)) (omega (arith, same, ends .1))))
+
   -- ── At a pace: with leaps, b, or without ──
 
   module _ {b : Bool} {k : ℕ} (late : b ≡ true → n ≤ k) where
     -- along the hints
     pub way-ran :
-        {pace : Way} (vs new : List ℕ) → pace ≡ hurriedOf way b → OnTheWay way chart go k old vs → Runs pace chart m vs new →
-        OnTheWay way chart go k old new × (left way (values new) ≤ left way (values vs))
-    way-ran vs new e u runs =
-        let w = subst (λ pace. Runs pace chart m vs new) e runs go (ready-hurried way b (u .ready)) .1 in
-        (way-more b late u w, omega (arith, went-left w, hurried-left way b (values new), hurried-left way b (values vs)))
-
-    -- numbers that all have a side are the model's
-    pub way-sided :
-        (new : List ℕ) → Fits way → length new ≡ n → OnTheWay way chart go k old new →
-        ((s : ℕ) → s < length new → radix ≤ testedOf (num new s)) → Settled way chart n go old new
-    way-sided new fits e u all =
-        end way k b new (u .model)
-        (λ i l.
-        sided-held (hurried-fits way b fits) (ready-hurried way b (u .ready)) (arrowAt chart i)
-        (omega (arith, e, arrow-ends p i l .0)) (all _ (omega (arith, e, arrow-ends p i l .0))))
+        {pace : Way} {moved : Bool} (vs new : List ℕ) → pace ≡ hurriedOf way b → OnTheWay way chart go k old vs →
+        Runs pace chart m moved vs new →
+        OnTheWay way chart go k old new × (left way (values new) ≤ left way (values vs)) ×
+        (moved ≡ false → values new ≡ values vs)
+    way-ran {moved = moved} vs new e u runs =
+        let ran = subst (λ pace. Runs pace chart m moved vs new) e runs go (ready-hurried way b (u .ready)) in
+        let w = ran .2 in (
+          way-more b late u w,
+          omega (arith, went-left w, hurried-left way b (values new), hurried-left way b (values vs)),
+          λ f. w .still (ran .1 f),
+        )
 
     module _
-        {pace : Way} (vs new : List ℕ) (e : pace ≡ hurriedOf way b) (u : OnTheWay way chart go k old vs) {any : Bool}
-        (sweeps : Sweeps pace chart m any vs new) where
-      paced :
-          Went (hurriedOf way b) chart m go any vs new ×
-          ((i : ℕ) → i < m → Held (hurriedOf way b) go (arrowAt chart i) (values vs) (values new))
-      paced = subst (λ pace. Sweeps pace chart m any vs new) e sweeps go (ready-hurried way b (u .ready))
+        {pace : Way} {floor : ℕ} (vs new : List ℕ) (e : pace ≡ hurriedOf way b) (u : OnTheWay way chart go k old vs)
+        (still : Still way chart go 0 floor (values vs)) {t : Tally} (sweeps : Sweeps pace chart m floor t vs new) where
+      swept-at : Sweep (hurriedOf way b) chart m go t vs new
+      swept-at =
+          subst (λ pace. Sweeps pace chart m floor t vs new) e sweeps .made go (ready-hurried way b (u .ready))
+          (λ i z l. held-hurried way b (still i z l))
 
-      -- so are numbers that a sweep did not change
-      pub way-done : any ≡ false → Settled way chart n go old new
+      -- numbers that a sweep did not change are the model's
+      pub way-done : t .any ≡ false → Settled way chart n go old new
       way-done f =
-          let w = subst (λ any. Went (hurriedOf way b) chart m go any vs new) f (paced .0) in
-          end way k b new (way-more b late u w .model) (λ i l. went-held w (paced .1 i l))
+          let w = subst (λ any. Went (hurriedOf way b) chart m go any vs new) f (swept-at .went) in
+          end way k b new (way-more b late u w .model) (λ i l. went-held w (swept-at .held i l))
 
       -- after a sweep that did
       pub way-next :
-          (j : ℕ) → any ≡ true → j ≤ suc k → OnTheWay way chart go j old new × (left way (values new) < left way (values vs))
+          (j : ℕ) → t .any ≡ true → j ≤ suc k →
+          OnTheWay way chart go j old new × (left way (values new) < left way (values vs)) ×
+          Still way chart go 0 (t .last) (values new)
       way-next j f l =
-          let v = way-more b late u (paced .0) in (
-            record { ready = v .ready; model = swept way j k b vs new l (u .model) (v .model) (paced .1) },
-            omega (arith, paced .0 .nearer f, hurried-left way b (values new), hurried-left way b (values vs)),
+          let v = way-more b late u (swept-at .went) in (
+            record { ready = v .ready; model = swept way j k b vs new l (u .model) (v .model) (swept-at .held) },
+            omega (arith, swept-at .went .nearer f, hurried-left way b (values new), hurried-left way b (values vs)),
+            λ i z h. held-slow way b (swept-at .still i z h),
           )

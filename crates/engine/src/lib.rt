@@ -2,52 +2,71 @@
 // arrow that raised a number last is its hint. In turn numbers rise along the hints and all arrows are tried. A row of
 // marks is lent for the walks.
 ghost use mathlib.Core.Path.{_≡_};
-ghost use mathlib.Core.Bool.{Bool, true};
+ghost use mathlib.Core.Bool.{Bool, true, cond};
 ghost use Prim.Native.Nat.{ℕ, _+_, _≤_, _<_, min};
 ghost use lib.ListN.{length};
-ghost use Rattle.model.specs.Engine.{num, lowered, raised};
-ghost use Rattle.model.specs.Weighed.{weighed};
-ghost use Rattle.chart.specs.Bytes.{chartOf};
+ghost use Rattle.model.specs.Engine.{num};
 ghost use Rattle.chart.specs.Shape.{Passed};
-ghost use Rattle.hints.specs.Values.{radix, testedOf, values};
-ghost use Rattle.visits.specs.Way.{leftOver};
+ghost use Rattle.hints.specs.Values.{radix, testedOf};
 ghost use Rattle.visits.specs.Moves.{Given, Ready, Goes};
-ghost use Rattle.engine.specs.Parts.{Lent, Settled, Quiet, Sweeps, Runs, Marked, hurriedOf};
+ghost use Rattle.engine.specs.Parts.{Lent, Settled, Quiet, AtRest, Sweeps, Runs, Marked, hurriedOf};
 use visits::Climb;
 use visits::Way;
 
-// One more than the last arrow before arrow k that would raise a number; 0 if none would. A loop of its own, for the
-// arrows that change nothing are most of them.
-fn last_raising(way: Way, chart: &[u8], n: usize, m: usize, k: usize, numbers: &[u32]) -> usize
-    requires { ⌜ Given way (now chart) n m (now numbers) × (k ≤ m) ⌝ }
-    ensures { λ r. ⌜ Quiet way (now (chart .entry)) r k (now (numbers .entry)) ⌝ }
+// One more than the last arrow from the floor on and before arrow k that would raise a number; the floor if none would. A
+// loop of its own, for the arrows that change nothing are most of them.
+fn last_raising(
+    way: Way,
+    chart: &[u8],
+    n: usize,
+    m: usize,
+    floor: usize,
+    k: usize,
+    numbers: &[u32],
+) -> usize
+    requires { ⌜ Given way (now chart) n m (now numbers) × (floor ≤ k) × (k ≤ m) ⌝ }
+    ensures { λ r. ⌜ Quiet way (now (chart .entry)) floor r k (now (numbers .entry)) ⌝ }
 {
     let mut i = k;
-    while 0 < i {
-        if visits::raises(way, chart, n, m, i - 1, numbers) {
-            return i;
-        }
+    while floor < i {
         i -= 1;
+        if visits::raises(way, chart, n, m, i, numbers) {
+            return i + 1;
+        }
     }
-    0
+    floor
 }
 
-// Every arrow is tried, from the last to the first.
-fn sweep(way: Way, chart: &[u8], n: usize, m: usize, numbers: &mut [u32]) -> bool
-    requires { ⌜ Given way (now chart) n m (now numbers) ⌝ }
-    ensures { λ r. ⌜ Sweeps way (now (chart .entry)) m r (now (numbers .entry)) (now (numbers .exit)) ⌝ }
+// Whether a sweep changed a number, and the arrow that was tried last.
+struct Tally {
+    any: bool,
+    last: usize,
+}
+
+// The arrows are tried, from the last to the first. Those before the floor would raise no number, and are tried if
+// another does.
+fn sweep(way: Way, floor: usize, chart: &[u8], n: usize, m: usize, numbers: &mut [u32]) -> Tally
+    requires { ⌜ Given way (now chart) n m (now numbers) × (floor ≤ m) ⌝ }
+    ensures { λ r. ⌜ Sweeps way (now (chart .entry)) m floor r (now (numbers .entry)) (now (numbers .exit)) ⌝ }
 {
+    let first = last_raising(way, chart, n, m, floor, m, numbers);
+    if first == floor {
+        return Tally {
+            any: false,
+            last: m,
+        };
+    }
     let mut any = false;
-    let mut i = m;
-    loop {
-        i = last_raising(way, chart, n, m, i, numbers);
-        if i == 0 {
-            return any;
-        }
+    let mut last = first;
+    let mut i = first;
+    while 0 < i {
         i -= 1;
         let x = visits::renew(way, chart, n, m, i, numbers);
         any = any | x;
+        last = i;
+        i = last_raising(way, chart, n, m, 0, i, numbers);
     }
+    Tally { any, last }
 }
 
 // The k-th of n from the first on, or from the last back.
@@ -123,7 +142,7 @@ fn trail(
 // The walk back: the hints of the states that the row has are tried, from the last of them to the first.
 fn back(way: Way, chart: &[u8], n: usize, m: usize, count: usize, row: &[u8], numbers: &mut [u32])
     requires { ⌜ Given way (now chart) n m (now numbers) × (length (now row) ≡ n) × (count ≤ n) ⌝ }
-    ensures { λ _. ⌜ Runs way (now (chart .entry)) m (now (numbers .entry)) (now (numbers .exit)) ⌝ }
+    ensures { λ _. ⌜ Runs way (now (chart .entry)) m true (now (numbers .entry)) (now (numbers .exit)) ⌝ }
 {
     let mut k = count;
     while 0 < k {
@@ -148,7 +167,7 @@ fn walk_from(
     numbers: &mut [u32],
 )
     requires { ⌜ Given way (now chart) n m (now numbers) × (length (now row) ≡ n) × (s < n) ⌝ }
-    ensures { λ _. ⌜ Runs way (now (chart .entry)) m (now (numbers .entry)) (now (numbers .exit)) ⌝ }
+    ensures { λ _. ⌜ Runs way (now (chart .entry)) m true (now (numbers .entry)) (now (numbers .exit)) ⌝ }
 {
     let t = trail(seen, chart, n, m, s, row, numbers);
     visits::leap(way, chart, n, m, t.count, t.at, numbers);
@@ -158,7 +177,7 @@ fn walk_from(
 // A walk from each state that was not met on one of them.
 fn walk(way: Way, seen: bool, chart: &[u8], n: usize, m: usize, row: &mut [u8], numbers: &mut [u32])
     requires { ⌜ Given way (now chart) n m (now numbers) × (length (now row) ≡ n) ⌝ }
-    ensures { λ _. ⌜ Runs way (now (chart .entry)) m (now (numbers .entry)) (now (numbers .exit)) ⌝ }
+    ensures { λ _. ⌜ Runs way (now (chart .entry)) m true (now (numbers .entry)) (now (numbers .exit)) ⌝ }
 {
     let mut s = 0;
     while s < n {
@@ -167,23 +186,24 @@ fn walk(way: Way, seen: bool, chart: &[u8], n: usize, m: usize, row: &mut [u8], 
     }
 }
 
-// The hints are tried in the order of states: back, and where minutes fall on again. Answers whether the last pass changed
-// a number.
-fn passes(way: Way, chart: &[u8], n: usize, m: usize, numbers: &mut [u32]) -> bool
+// The hints are tried once more where minutes fall, in the other order. Answers whether walks are called for.
+fn again(way: Way, chart: &[u8], n: usize, m: usize, numbers: &mut [u32]) -> bool
     requires { ⌜ Given way (now chart) n m (now numbers) ⌝ }
-    ensures { λ _. ⌜ Runs way (now (chart .entry)) m (now (numbers .entry)) (now (numbers .exit)) ⌝ }
+    ensures { λ _. ⌜ Runs way (now (chart .entry)) m true (now (numbers .entry)) (now (numbers .exit)) ⌝ }
 {
-    if !pass(way, true, chart, n, m, numbers) {
-        return false;
-    }
     match way {
         Way::Lower => pass(way, false, chart, n, m, numbers),
         Way::Raise(_) => true,
     }
 }
 
-// Numbers rise along the hints: by passes, and if that is not enough by walks. Answers which marks the next walk takes
-// for those of states that it met.
+// Which marks the next walk takes for those of states that it met, and whether a number may have changed.
+struct Track {
+    seen: bool,
+    moved: bool,
+}
+
+// Numbers rise along the hints: by passes in the order of states, and if that is not enough by walks.
 fn along(
     way: Way,
     seen: bool,
@@ -192,15 +212,21 @@ fn along(
     m: usize,
     row: &mut [u8],
     numbers: &mut [u32],
-) -> bool
+) -> Track
     requires { ⌜ Given way (now chart) n m (now numbers) × (length (now row) ≡ n) ⌝ }
-    ensures { λ _. ⌜ Runs way (now (chart .entry)) m (now (numbers .entry)) (now (numbers .exit)) ⌝ }
+    ensures { λ r. ⌜ Runs way (now (chart .entry)) m (r .moved) (now (numbers .entry)) (now (numbers .exit)) ⌝ }
 {
-    if !passes(way, chart, n, m, numbers) {
-        return seen;
+    if !pass(way, true, chart, n, m, numbers) {
+        return Track { seen, moved: false };
+    }
+    if !again(way, chart, n, m, numbers) {
+        return Track { seen, moved: true };
     }
     walk(way, seen, chart, n, m, row, numbers);
-    !seen
+    Track {
+        seen: !seen,
+        moved: true,
+    }
 }
 
 // Every number has a side, so that none can rise.
@@ -216,6 +242,34 @@ fn all_sided(numbers: &[u32]) -> bool
         s += 1;
     }
     true
+}
+
+// No state has another value or side than the first.
+fn all_alike(numbers: &[u32]) -> bool
+    ensures { λ r. ⌜ (r ≡ true → (s : ℕ) → s < length (now (numbers .entry)) →
+        testedOf (num (now (numbers .entry)) s) ≡ testedOf (num (now (numbers .entry)) 0)) ⌝ }
+{
+    let mut s = 0;
+    while s < numbers.len() {
+        if hints::tested(numbers[s]) != hints::tested(numbers[0]) {
+            return false;
+        }
+        s += 1;
+    }
+    true
+}
+
+// No number can rise: all have a side, or minutes that fall are the same everywhere.
+fn at_rest(way: Way, numbers: &[u32]) -> bool
+    ensures { λ r. ⌜ AtRest r way (now (numbers .entry)) ⌝ }
+{
+    if all_sided(numbers) {
+        return true;
+    }
+    match way {
+        Way::Lower => all_alike(numbers),
+        Way::Raise(_) => false,
+    }
 }
 
 // The way, with leaps or without.
@@ -243,44 +297,49 @@ fn counted(done: usize, n: usize) -> usize
     n
 }
 
+// The floor for the next sweep: what is known of arrows holds until a number changes.
+fn kept(moved: bool, floor: usize) -> usize
+    ensures { λ r. ⌜ r ≡ cond moved 0 floor ⌝ }
+{
+    if moved {
+        return 0;
+    }
+    floor
+}
+
 // Numbers rise until no arrow raises one. What rises after n sweeps rises without end, and goes to the cap at once.
-fn settle(way: Way, chart: &[u8], n: usize, m: usize, row: &mut [u8], numbers: &mut [u32])
+fn rise(way: Way, chart: &[u8], n: usize, m: usize, row: &mut [u8], numbers: &mut [u32])
     requires { ⌜ Lent way (now chart) n m (now row) (now numbers) ⌝ }
     ensures { λ _. ⌜ ((go : ℕ → Bool) → Ready way go (now (numbers .entry)) →
         Settled way (now (chart .entry)) n go (now (numbers .entry)) (now (numbers .exit))) ⌝ }
 {
     let mut done = 0;
     let mut seen = true;
+    let mut floor = 0;
     loop {
         let pace = hurried(way, n <= done);
-        seen = along(pace, seen, chart, n, m, row, numbers);
-        if all_sided(numbers) {
+        let track = along(pace, seen, chart, n, m, row, numbers);
+        if at_rest(way, numbers) {
             return;
         }
-        if !sweep(pace, chart, n, m, numbers) {
+        let tally = sweep(pace, kept(track.moved, floor), chart, n, m, numbers);
+        if !tally.any {
             return;
         }
+        seen = track.seen;
+        floor = tally.last;
         done = counted(done, n);
     }
 }
 
-// The least minutes, as what they leave to the top.
-pub fn least(chart: &[u8], n: usize, m: usize, row: &mut [u8], numbers: &mut [u32])
-    requires { ⌜ Lent Way.Lower (now chart) n m (now row) (now numbers) ⌝ }
-    ensures { λ _. ⌜ ((go : ℕ → Bool) → Ready Way.Lower go (now (numbers .entry)) →
-        leftOver (values (now (numbers .exit))) ≡
-        lowered (chartOf (now (chart .entry)) .arrows) n go (leftOver (values (now (numbers .entry))))) ⌝ }
+// The same, and at once where no number can rise: the model's minutes.
+pub fn settle(way: Way, chart: &[u8], n: usize, m: usize, row: &mut [u8], numbers: &mut [u32])
+    requires { ⌜ Lent way (now chart) n m (now row) (now numbers) ⌝ }
+    ensures { λ _. ⌜ ((go : ℕ → Bool) → Ready way go (now (numbers .entry)) →
+        Settled way (now (chart .entry)) n go (now (numbers .entry)) (now (numbers .exit))) ⌝ }
 {
-    settle(Way::Lower, chart, n, m, row, numbers);
-}
-
-// The greatest minutes.
-pub fn greatest(chart: &[u8], n: usize, m: usize, climb: Climb, row: &mut [u8], numbers: &mut [u32])
-    requires { ⌜ Lent (Way.Raise climb) (now chart) n m (now row) (now numbers) ⌝ }
-    ensures { λ _. ⌜ ((go : ℕ → Bool) → Ready (Way.Raise climb) go (now (numbers .entry)) →
-        values (now (numbers .exit)) ≡
-        raised (weighed (climb .ticks) (chartOf (now (chart .entry)) .arrows)) n (climb .cap) go
-        (values (now (numbers .entry)))) ⌝ }
-{
-    settle(Way::Raise(climb), chart, n, m, row, numbers);
+    if at_rest(way, numbers) {
+        return;
+    }
+    rise(way, chart, n, m, row, numbers);
 }

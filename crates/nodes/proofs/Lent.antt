@@ -38,10 +38,9 @@ rows-inside n low e h = (e, omega (arith, row-below n (low .left)), omega (arith
 
 -- row t, and numbers with sides: what the engine asks for
 pub lent-row :
-    {way way′ : Way} {chart : List ℕ} {n m t : ℕ} {marks numbers : List ℕ} → Lent chart n m t marks numbers →
-    Able way numbers → way ≡ way′ → EngineLent way′ chart n m (lent (t * n) n marks) numbers
-lent-row {chart = chart} {n} {m} {t} {marks} {numbers} l able e =
-    subst (λ w. EngineLent w chart n m (lent (t * n) n marks) numbers) e
+    {way : Way} {chart : List ℕ} {n m t : ℕ} {marks numbers : List ℕ} → Lent chart n m t marks numbers →
+    Able way numbers → EngineLent way chart n m (lent (t * n) n marks) numbers
+lent-row {n = n} {t = t} {marks} l able =
     record {
       given = record { passed = l .passed; size = l .size; fits = able .fits };
       wide = lent-length (t * n) n marks (l .table);

@@ -30,10 +30,7 @@ fn run(way: Way, chart: &[u8], n: usize, m: usize, t: usize, marks: &mut [u8], n
 {
     let at = t * n;
     let end = at + n;
-    match way {
-        Way::Lower => engine::least(chart, n, m, &mut marks[at..end], numbers),
-        Way::Raise(climb) => engine::greatest(chart, n, m, climb, &mut marks[at..end], numbers),
-    }
+    engine::settle(way, chart, n, m, &mut marks[at..end], numbers);
 }
 
 // The engine, from a base of the operands' marks.

@@ -42,10 +42,13 @@ module _
       offers .is fits (omega (arith, end, r .within (w .end))) ∙
       ap (offerOf way (arrowOf w)) (end ∙ value-at ns (w .end))
 
-  pub visit-stays : v ≤ testedOf (num ns (w .start)) → Held way go (arrowAt chart i) vs vs
-  visit-stays h =
-      subst (λ w. Held way go (arrowOf w) vs vs) is
-      (record { is = λ f. omega (arith, comes, tested-held r (w .start) here v h low f) })
+  -- a start that is not below the offer, now or later
+  pub visit-stays :
+      {us : List ℕ} → Ready way go us → length us ≡ length ns → v ≤ testedOf (num us (w .start)) →
+      Held way go (arrowAt chart i) vs (values us)
+  visit-stays {us} q e h =
+      subst (λ w. Held way go (arrowOf w) vs (values us)) is
+      (record { is = λ f. omega (arith, comes, tested-held q (w .start) (omega (arith, e)) v h low f) })
 
   -- what is set is what the offer reaches, with its side
   pub visit-moves :

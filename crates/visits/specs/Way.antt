@@ -63,6 +63,12 @@ sideOf way go s v = neg (go s && ltb v (ceilingOf way))
 abbrev pub beside : ℕ → Bool → ℕ
 beside v b = v + cond b radix 0
 
+-- r is what an arrow with the word most weighs, or more where that is above every cap
+pub record Weighs (ticks : Bool) (most r : ℕ) : Type 0 where
+  pub low : r ≤ 65536
+  pub is :
+      (there cap : ℕ) → 1 ≤ there → cap ≤ highest → min cap (there + r) ≡ offer cap (weight ticks (mostOf most)) there
+
 -- r is what a number comes to by the word most, or more where that is the cap
 pub record Increased (ticks : Bool) (most there r : ℕ) : Type 0 where
   pub low : r ≤ there + 65536

@@ -2,14 +2,11 @@
 // loop raises a number to the cap. Minutes that fall are kept as what they leave to the top, so that numbers rise on
 // either way. What is promised is about values; hints and marks may be anything.
 ghost use mathlib.Core.Path.{_≡_};
-ghost use mathlib.Core.Bool.{Bool, false, cond};
+ghost use mathlib.Core.Bool.{Bool, false};
 ghost use Prim.Native.Nat.{ℕ, _+_, _-_, _≤_, _<_, min};
-ghost use Rattle.model.specs.Engine.{offer};
-ghost use Rattle.model.specs.Weighed.{weight};
-ghost use Rattle.chart.specs.Bytes.{isNoEnd, mostOf};
 ghost use Rattle.chart.specs.Shape.{InRange, Slot};
 ghost use Rattle.hints.specs.Values.{radix, values};
-ghost use Rattle.visits.specs.Way.{highest, top, ceilingOf, leapsOf, Fits, Increased, Offers, Reached};
+ghost use Rattle.visits.specs.Way.{ceilingOf, leapsOf, Fits, Weighs, Increased, Offers, Reached};
 ghost use Rattle.visits.specs.Moves.{Given, Ready, arrowAt, Held, Goes, Visits};
 use chart::ArrowWords;
 
@@ -58,34 +55,16 @@ fn lesser(a: u64, b: u64) -> u64
     b
 }
 
-// The word most, no end as more than is asked for.
-fn stretched(most: u32) -> u64
-    ensures { λ r. ⌜ r ≡ cond (isNoEnd most) 65536 most ⌝ }
-{
-    if chart::no_end(most) {
-        return 65536;
-    }
-    most as u64
-}
-
-// The most that an arrow weighs.
-fn limit(ticks: bool) -> u64
-    ensures { λ r. ⌜ r ≡ cond ticks 1 65536 ⌝ }
-{
-    if ticks {
-        return 1;
-    }
-    65536
-}
-
-// What an arrow with the word most weighs, no end as more than is asked for. The lesser of two, since whether an arrow
-// has an end, or takes time, is a test that no processor foretells.
+// What an arrow with the word most weighs, no end as more than is asked for. A sum instead of a test, since whether an
+// arrow has an end, or takes time, is what no processor foretells.
 fn weight_of(ticks: bool, most: u32) -> u64
     requires { ⌜ InRange most ⌝ }
-    ensures { λ r. ⌜ (r ≤ 65536) × ((there cap : ℕ) → 1 ≤ there → cap ≤ highest →
-        min cap (there + r) ≡ offer cap (weight ticks (mostOf most)) there) ⌝ }
+    ensures { λ r. ⌜ Weighs ticks most r ⌝ }
 {
-    lesser(stretched(most), limit(ticks))
+    if ticks {
+        return (most != 0) as u64;
+    }
+    most as u64 + chart::no_end(most) as u64
 }
 
 // What is left to the top after the fewest minutes more.
@@ -175,13 +154,20 @@ pub fn follow(way: Way, chart: &[u8], n: usize, m: usize, s: usize, numbers: &mu
     raise(way, chart, n, m, i, numbers)
 }
 
-// Arrow i is tried, after the own hint of its start, which stays unless the arrow is better then.
+// Arrow i is tried, after the own hint of its start, which stays unless the arrow offered more before. A state whose arrow
+// leads back to it would get that as its hint again and again otherwise.
 pub fn renew(way: Way, chart: &[u8], n: usize, m: usize, i: usize, numbers: &mut [u32]) -> bool
     requires { ⌜ Given way (now chart) n m (now numbers) × (i < m) ⌝ }
     ensures { λ r. ⌜ Visits way (now (chart .entry)) m i r (now (numbers .entry)) (now (numbers .exit)) ⌝ }
 {
     let a = hints::arrow(chart, n, m, i);
-    let own = follow(way, chart, n, m, a.start, numbers);
+    let s = a.start;
+    let e = a.end;
+    let v = offered(way, a, hints::value(numbers[e]));
+    let own = follow(way, chart, n, m, s, numbers);
+    if v <= hints::tested(numbers[s]) {
+        return own;
+    }
     let new = raise(way, chart, n, m, i, numbers);
     own | new
 }

@@ -1,5 +1,6 @@
 -- Invariant: so far the numbers went their way.
 use mathlib.Core.Path.{_≡_}
+use mathlib.Core.Bool.{true}
 use Prim.Native.Nat.{_≤_}
 use native.Mathlib.Omega.{arith}
 use lib.ListN.{length}
@@ -11,7 +12,7 @@ use Rattle.engine.proofs.back.Tie as tie
 
 abbrev Inv-loop : tie.InvT-loop
 Inv-loop way chart n m count row numbers₀ k₀ numbers k =
-    (k ≤ n) × (length numbers ≡ n) × Runs way chart m numbers₀ numbers
+    (k ≤ n) × (length numbers ≡ n) × Runs way chart m true numbers₀ numbers
 
 abbrev μ-loop : tie.MeasureT-loop
 μ-loop way chart n m count row numbers₀ k₀ numbers k = k
@@ -24,7 +25,7 @@ abbrev start : tie.At-loop Inv-loop μ-loop → tie.Start Inv-loop μ-loop
 start c = c .before .before .before .before
 
 loop-holds : tie.Need-loop-holds Inv-loop μ-loop
-loop-holds c = let p = c .before .before .before .pre in (p .2, p .0 .size, runs-none _ _ _ _)
+loop-holds c = let p = c .before .before .before .pre in (p .2, p .0 .size, runs-none _ _ _ _ _)
 
 follow-requires : tie.Need-follow-requires Inv-loop μ-loop
 follow-requires c κs =

@@ -1,5 +1,6 @@
 -- Invariant: so far the numbers went their way.
 use mathlib.Core.Path.{_≡_}
+use mathlib.Core.Bool.{true}
 use Prim.Native.Nat.{_≤_, _-_}
 use native.Mathlib.Omega.{arith}
 use lib.ListN.{length}
@@ -11,7 +12,7 @@ use Rattle.engine.proofs.walk.Tie as tie
 
 abbrev Inv-loop : tie.InvT-loop
 Inv-loop way seen chart n m row₀ numbers₀ s₀ row numbers s =
-    (s ≤ n) × (length row ≡ n) × (length numbers ≡ n) × Runs way chart m numbers₀ numbers
+    (s ≤ n) × (length row ≡ n) × (length numbers ≡ n) × Runs way chart m true numbers₀ numbers
 
 abbrev μ-loop : tie.MeasureT-loop
 μ-loop way seen chart n m row₀ numbers₀ s₀ row numbers s = n - s
@@ -21,7 +22,7 @@ abbrev start : tie.At-loop Inv-loop μ-loop → tie.Start Inv-loop μ-loop
 start c = c .before .before .before .before
 
 loop-holds : tie.Need-loop-holds Inv-loop μ-loop
-loop-holds c = let p = c .before .before .before .pre in (omega arith, p .1, p .0 .size, runs-none _ _ _ _)
+loop-holds c = let p = c .before .before .before .pre in (omega arith, p .1, p .0 .size, runs-none _ _ _ _ _)
 
 walk-from-requires : tie.Need-walk-from-requires Inv-loop μ-loop
 walk-from-requires c κs =

@@ -1,4 +1,5 @@
 -- Marks, a leap, and the way back.
+use mathlib.Core.Bool.{true}
 use native.Mathlib.Omega.{arith}
 use borrow.Author.Needs.{needs}
 use Rattle.visits.proofs.Went.{given-still}
@@ -33,7 +34,7 @@ returns c =
     let back = c .before .before in
     let leap = leapt (back .before) in
     let w = walked (leap .before) in
-    runs-both _ _ _ _ _ _ (runs-both _ _ _ _ _ _ (runs-marked _ _ _ _ _ (w .trail .ensures .0))
+    runs-both _ _ _ _ _ _ (runs-both _ _ _ _ _ _ (runs-marked _ _ _ true _ _ (w .trail .ensures .0))
     (runs-goes _ _ _ _ _ (leap .leap .ensures))) (back .back .ensures)
 
 pub walk-from-spec : {M : Type 1} → statement M

@@ -8,7 +8,7 @@ returns : tie.Need-returns
 returns c =
     let weighed = c .before .weight-of in
     let a = c .before .before .args in
-    increases (a .ticks) (a .most) (a .there) (weighed .result) (weighed .ensures .0) (weighed .ensures .1) (c .lesser .ensures)
+    increases (a .ticks) (a .most) (a .there) (weighed .result) (weighed .ensures) (c .lesser .ensures)
 
 pub increased-spec : {M : Type 1} → statement M
 increased-spec =

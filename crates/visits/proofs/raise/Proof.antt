@@ -1,4 +1,5 @@
 -- Nothing changes, or the number is set.
+use mathlib.Core.Path.{refl}
 use native.Mathlib.Omega.{arith}
 use denote.Ref.{now}
 use borrow.Author.Needs.{needs}
@@ -29,8 +30,8 @@ returns c =
     λ go r. (
       went-none r,
       visit-stays (start at .pre .0 .fits) (now (a .chart)) (now (a .numbers)) (a .m) (a .i) (w .0)
-          (omega (arith, w .1 .start, start at .pre .0 .size)) (value at .value .ensures) (offer at .offered .ensures) r
-          (omega (arith, at .tested .ensures, c .if1 .taken)),
+          (omega (arith, w .1 .start, start at .pre .0 .size)) (value at .value .ensures) (offer at .offered .ensures) r r
+          refl (omega (arith, at .tested .ensures, c .if1 .taken)),
     )
 
 hinted-requires : tie.Need-hinted-requires

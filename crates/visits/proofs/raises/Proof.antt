@@ -1,4 +1,5 @@
 -- If not, the start has what the arrow offers.
+use mathlib.Core.Path.{refl}
 use native.Mathlib.Omega.{arith}
 use denote.Ref.{now}
 use borrow.Author.Needs.{needs}
@@ -25,8 +26,8 @@ returns c e go r =
     let a = start c .args in
     let w = read c .arrow .ensures in
     visit-stays (start c .pre .0 .fits) (now (a .chart)) (now (a .numbers)) (a .m) (a .i) (w .0)
-    (omega (arith, w .1 .start, start c .pre .0 .size)) (value c .value .ensures) (c .offered .ensures) r
-    (omega (arith, tested c .tested .ensures, ltb-false (tested c .tested .result) (c .offered .result) e))
+    (omega (arith, w .1 .start, start c .pre .0 .size)) (value c .value .ensures) (c .offered .ensures) r r
+    refl (omega (arith, tested c .tested .ensures, ltb-false (tested c .tested .result) (c .offered .result) e))
 
 pub raises-spec : {M : Type 1} → statement M
 raises-spec =

@@ -1,30 +1,61 @@
--- The own hint is tried and then the arrow.
+-- The own hint is tried, and then the arrow unless it offered no more.
 use native.Mathlib.Omega.{arith}
+use denote.Ref.{now}
 use borrow.Author.Needs.{needs}
 use Rattle.visits.proofs.Moved.{held-from}
-use Rattle.visits.proofs.Went.{went-below, went-both, given-still}
+use Rattle.visits.proofs.Went.{went-size, went-below, went-both, given-still}
+use Rattle.visits.proofs.Tried.{visit-stays}
 use Rattle.visits.proofs.renew.Statement.{statement}
 use Rattle.visits.proofs.renew.Tie as tie
 
--- the stops: after the own hint, and the start
-abbrev own : tie.After-raise-arg → tie.After-follow
-own c = c .before .before .before
+-- the stops: after the own hint, where the offer, the end's value and the arrow are known, and the start
+abbrev own : tie.After-tested → tie.After-follow
+own c = c .before .before .before .before
 
-abbrev start : tie.After-follow → tie.Start
-start c = c .before .before .before .before .before
+abbrev offer : tie.After-follow → tie.After-offered
+offer c = c .before .before
 
-raise-requires : tie.Need-raise-requires
-raise-requires c κs = let p = start (own c) .pre in (given-still (p .0) (search needs), p .1)
+abbrev value : tie.After-offered → tie.After-value
+value c = c .before
+
+abbrev read : tie.After-value → tie.After-arrow
+read c = c .before .before
+
+abbrev start : tie.After-arrow → tie.Start
+start c = c .before .before .before
+
+-- the start from after the own hint
+abbrev begun : tie.After-tested → tie.Start
+begun c = start (read (value (offer (own c))))
 
 returns : tie.Need-returns
-returns c =
+returns c go r =
+    let at = c .before in
+    let first = own at .follow .ensures go r in
+    let o = offer (own at) in
+    let w = read (value o) .arrow .ensures in
+    let a = begun at .args in
+    let p = begun at .pre in (
+      first,
+      visit-stays (p .0 .fits) (now (a .chart)) (now (a .numbers)) (a .m) (a .i) (w .0)
+          (omega (arith, w .1 .start, p .0 .size)) (value o .value .ensures) (o .offered .ensures) r (first .ready)
+          (went-size _ _ first) (omega (arith, at .tested .ensures, c .if1 .taken)),
+    )
+
+raise-requires : tie.Need-raise-requires
+raise-requires c κs = let p = begun (c .before .before) .pre in (given-still (p .0) (search needs), p .1)
+
+returns-2 : tie.Need-returns-2
+returns-2 c =
     let new = c .before .before in
     λ go r.
-    let first = own (new .before) .follow .ensures go r in
+    let first = own (new .before .before .before) .follow .ensures go r in
     let second = new .raise .ensures go (first .ready) in
     (went-both first (second .0), held-from (went-below first) (second .1))
 
 pub renew-spec : {M : Type 1} → statement M
 renew-spec =
     tie.close
-    (tie.spec (λ c κs. search needs) (λ c κs. search needs) raise-requires (λ c. search needs) returns)
+    (tie.spec (λ c κs. search needs) (λ c. search needs) (λ c. search needs) (λ c κs. search needs) (λ c κs. search needs)
+    (λ c κs. search needs) (λ c. search needs) (λ c. search needs) (λ c κs. search needs) (λ c. search needs) returns
+    raise-requires (λ c. search needs) returns-2)
