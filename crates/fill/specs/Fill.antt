@@ -10,6 +10,7 @@ use Rattle.fill.specs.declared.Mix.{Mix}
 use Rattle.fill.specs.declared.Mix.the-variants.{Yes, Not, And, Or}
 use Rattle.fill.specs.declared.Base.{Base}
 use Rattle.fill.specs.declared.Base.the-variants.{Reach, Goal, Fail, Stay}
+use Rattle.fill.specs.declared.Four.{Four}
 
 -- a mark from those of two operands
 abbrev pub mixOf : Mix → Bool → Bool → Bool
@@ -62,6 +63,18 @@ pub record Chosen (b : Bool) (x y r : ℕ) : Type 0 where
 pub record Placed (v : ℕ) (go : Bool) (limit r : ℕ) : Type 0 where
   pub is : r ≡ placedOf v go limit
   pub low : r < sided
+
+-- r is the value and the side that a base gives for two marks
+abbrev pub Based : Base → Bool → Bool → ℕ → Type 0
+Based base p q r = Placed (startOf base p q) (goOf base p q) (limitOf base) r
+
+-- the one of four for two marks
+unfoldable pub oneOf : Four → Bool → Bool → ℕ
+oneOf four p q = cond p (cond q (four .both) (four .first)) (cond q (four .second) (four .neither))
+
+-- the four have what a base gives, whatever the marks
+pub record Foreseen (base : Base) (four : Four) : Type 0 where
+  pub each : (p q : Bool) → Based base p q (oneOf four p q)
 
 -- a mark from a value: above the limit, or up to it
 abbrev pub judged : Bool → ℕ → ℕ → Bool

@@ -11,7 +11,7 @@ ghost use Rattle.chart.specs.Bytes.{labelWord};
 ghost use Rattle.chart.specs.Shape.{Passed};
 ghost use Rattle.hints.specs.Values.{valueOf};
 ghost use Rattle.visits.specs.Way.{highest, top};
-ghost use Rattle.fill.specs.Fill.{mixOf, capOf, startOf, goOf, limitOf, baseOf, judged, Chosen, Placed};
+ghost use Rattle.fill.specs.Fill.{mixOf, capOf, baseOf, judged, Chosen, Placed, Based, oneOf, Foreseen};
 ghost use Rattle.fill.specs.Parts.{Wrote, Filled, Sured};
 
 // A mark from the marks p and q of two operands.
@@ -65,7 +65,7 @@ fn placed(v: u32, go: bool, limit: u32) -> u32
 // The value and the side from the marks p and q.
 fn based(base: Base, p: bool, q: bool) -> u32
     requires { ⌜ capOf base ≤ highest ⌝ }
-    ensures { λ r. ⌜ Placed (startOf base p q) (goOf base p q) (limitOf base) r ⌝ }
+    ensures { λ r. ⌜ Based base p q r ⌝ }
 {
     let t = visits::TOP;
     match base {
@@ -74,6 +74,38 @@ fn based(base: Base, p: bool, q: bool) -> u32
         Base::Fail(cap) => placed(either(p | q, 1, cap), p & !q, cap),
         Base::Stay(cap) => placed(either(p, t - cap, t), true, t),
     }
+}
+
+// What a base gives where neither mark holds, only the first, only the second, or both.
+struct Four {
+    neither: u32,
+    first: u32,
+    second: u32,
+    both: u32,
+}
+
+// The four of a base, found once and not at each state.
+fn four_of(base: Base) -> Four
+    requires { ⌜ capOf base ≤ highest ⌝ }
+    ensures { λ r. ⌜ Foreseen base r ⌝ }
+{
+    Four {
+        neither: based(base, false, false),
+        first: based(base, true, false),
+        second: based(base, false, true),
+        both: based(base, true, true),
+    }
+}
+
+// The one of four for the marks p and q.
+fn one_of(four: Four, p: bool, q: bool) -> u32
+    ensures { λ r. ⌜ r ≡ oneOf four p q ⌝ }
+{
+    either(
+        p,
+        either(q, four.both, four.first),
+        either(q, four.second, four.neither),
+    )
 }
 
 // Whether v is above the limit, or up to it.
@@ -156,11 +188,12 @@ pub fn fill_numbers(base: Base, n: usize, a: usize, b: usize, marks: &[u8], numb
 {
     let left = a * n;
     let right = b * n;
+    let four = four_of(base);
     let mut s = 0;
     while s < n {
         let p = marks[left + s] == 1;
         let q = marks[right + s] == 1;
-        numbers[s] = hints::anew(numbers[s], based(base, p, q));
+        numbers[s] = hints::anew(numbers[s], one_of(four, p, q));
         s += 1;
     }
 }

@@ -79,6 +79,12 @@ pub record Offers (way : Way) (w : ArrowWords) (there r : ℕ) : Type 0 where
   pub low : r ≤ there + 65536
   pub is : Fits way → there ≤ top → min (ceilingOf way) r ≡ offerOf way (arrowOf w) there
 
+-- r is whether that is above t
+pub record Beats (way : Way) (w : ArrowWords) (there t : ℕ) (r : Bool) : Type 0 where
+  pub offer : ℕ
+  pub offers : Offers way w there offer
+  pub is : r ≡ ltb t offer
+
 -- r is what a number becomes by the offer v, with its side
 pub record Reached (way : Way) (v r : ℕ) : Type 0 where
   pub is : let u = reachedOf way (min (ceilingOf way) v) in r ≡ beside u (neg (ltb u (ceilingOf way)))

@@ -5,8 +5,8 @@ ghost use mathlib.Core.Path.{_≡_};
 ghost use mathlib.Core.Bool.{Bool, false};
 ghost use Prim.Native.Nat.{ℕ, _+_, _-_, _≤_, _<_, min};
 ghost use Rattle.chart.specs.Shape.{InRange, Slot};
-ghost use Rattle.hints.specs.Values.{radix, values};
-ghost use Rattle.visits.specs.Way.{ceilingOf, leapsOf, Fits, Weighs, Increased, Offers, Reached};
+ghost use Rattle.hints.specs.Values.{radix, sided, values};
+ghost use Rattle.visits.specs.Way.{ceilingOf, leapsOf, Fits, Weighs, Increased, Offers, Beats, Reached};
 ghost use Rattle.visits.specs.Moves.{Given, Ready, arrowAt, Held, Goes, Visits};
 use chart::ArrowWords;
 
@@ -98,6 +98,18 @@ fn offered(way: Way, a: ArrowWords, there: u32) -> u32
     }
 }
 
+// What an arrow offers its start, from its end's number, is above t. Where minutes fall a sum is compared instead of what
+// is left, which takes no test.
+fn beats(way: Way, a: ArrowWords, there: u32, t: u32) -> bool
+    requires { ⌜ Slot a × (there < radix) × (t < sided) ⌝ }
+    ensures { λ r. ⌜ Beats way a there t r ⌝ }
+{
+    match way {
+        Way::Lower => t + a.fewest < there,
+        Way::Raise(climb) => t < increased(climb.ticks, a.most, there),
+    }
+}
+
 // What a number becomes by the offer v, with its side.
 fn reached(way: Way, v: u32) -> u32
     requires { ⌜ Fits way ⌝ }
@@ -122,7 +134,7 @@ pub fn raises(way: Way, chart: &[u8], n: usize, m: usize, i: usize, numbers: &[u
     let a = hints::arrow(chart, n, m, i);
     let s = a.start;
     let e = a.end;
-    hints::tested(numbers[s]) < offered(way, a, hints::value(numbers[e]))
+    beats(way, a, hints::value(numbers[e]), hints::tested(numbers[s]))
 }
 
 // Arrow i raises the number of its start, and is then its hint.

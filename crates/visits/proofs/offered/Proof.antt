@@ -1,23 +1,14 @@
 -- The two ways.
-use mathlib.Core.Path.{_≡_, ap, _∙_}
-use Prim.Native.Nat.{min}
-use native.Mathlib.Omega.{arith}
 use borrow.Author.Needs.{needs}
-use Rattle.visits.specs.Way.{ceilingOf, offerOf}
+use Rattle.visits.proofs.Offer.{lower-offers, raise-offers}
 use Rattle.visits.proofs.offered.Statement.{statement}
 use Rattle.visits.proofs.offered.Tie as tie
 
 returns : tie.Need-returns
-unfolding ceilingOf offerOf
-returns c =
-    let e = c .lessened .ensures in
-    rw (c .before .enum-told .given .1) (record { low = omega (arith, e); is = λ f l. omega (arith, e) })
+returns c = rw (c .before .enum-told .given .1) (lower-offers _ _ (c .lessened .ensures))
 
 returns-2 : tie.Need-returns-2
-unfolding ceilingOf offerOf
-returns-2 c =
-    let e = c .increased .ensures in
-    rw (c .before .before .way .given .1) (record { low = e .low; is = λ f l. e .is _ f })
+returns-2 c = rw (c .before .before .way .given .1) (raise-offers _ _ _ (c .increased .ensures))
 
 pub offered-spec : {M : Type 1} → statement M
 offered-spec =
