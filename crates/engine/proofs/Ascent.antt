@@ -18,7 +18,7 @@ use Rattle.model.proofs.Weighed.{weighed-drawn}
 use Rattle.model.proofs.Raise.{Offered}
 use Rattle.model.proofs.Rising.{Rising, rising-start, rising-less, rising-offer, rising-loop, rising-held}
 use Rattle.model.proofs.Greatest.{greatest-is}
-use Rattle.chart.specs.Bytes.{arrowWords, arrowOf, chartOf}
+use Rattle.chart.specs.Bytes.{chartOf}
 use Rattle.chart.specs.Shape.{Passed}
 use Rattle.chart.proofs.Chart.{arrow-mem, arrow-of}
 use Rattle.chart.proofs.Reading.{has-states, drawn}
@@ -26,7 +26,7 @@ use Rattle.hints.specs.Circle.{Leads, here, next}
 use Rattle.visits.specs.declared.Climb.{Climb}
 use Rattle.visits.specs.declared.Way.the-variants.{Raise}
 use Rattle.visits.specs.Way.{ceilingOf, leapsOf, gain, offerOf, reachedOf}
-use Rattle.visits.specs.Moves.{arrowAt, offerAt, Held, Moved, none, more, leap}
+use Rattle.visits.specs.Moves.{arrowAt, Held, Moved, none, more, leap}
 
 -- steps through go are a path
 led-path :
@@ -35,12 +35,12 @@ led-path :
 led-path here = (stop refl, refl)
 led-path (next {d = d} y x w) = let p = led-path w in (step y x (p .0), ap (λ k. d + k) (p .1))
 
--- what is offered, is offered from a number above 0, and is the model's offer
-gains :
-    (cap : ℕ) (most : Most) (v : ℕ) {u : ℕ} → u < gain cap most v → (1 ≤ v) × (gain cap most v ≡ offer cap most v)
+-- what is offered, is offered from a number above 0
+gains : (cap : ℕ) (most : Most) (v : ℕ) {u : ℕ} → u < gain cap most v → 1 ≤ v
 gains cap most zero l = absurd (let z : ⊥ = omega arith in z)
-gains cap most (suc v) l = (omega arith, refl)
+gains cap most (suc v) l = omega arith
 
+-- and is the model's offer
 offers-all : (cap : ℕ) (most : Most) (v : ℕ) → 1 ≤ v → gain cap most v ≡ offer cap most v
 offers-all cap most zero l = absurd (let z : ⊥ = omega arith in z)
 offers-all cap most (suc v) l = refl
@@ -88,18 +88,19 @@ module _
   unfolding offerOf leapsOf ceilingOf
   rises-moved late f none = f
   rises-moved {k} late f (more {vs = us} t i l y h) =
-      subst (λ o. Rises k (set us (a .start) (reachedOf (Raise climb) o))) (sym (g .1))
+      subst (λ o. Rises k (set us (a .start) (reachedOf (Raise climb) o))) (sym same)
       (rising-offer heavy go cap (num old) (climb .leap) (λ e. omega (arith, late e, has-states p)) (weighing ticks a)
-      (Memᴰ·map (weighing ticks) (arrow-mem chart i (subst (λ k. i < k) (p .arrows) l))) (rises-moved late f t) y (g .0)
-      (omega (arith, g .1, h)))
+      (Memᴰ·map (weighing ticks) (arrow-mem chart i (subst (λ k. i < k) (p .arrows) l))) (rises-moved late f t) y some
+      (omega (arith, same, h)))
     where
       a : Arrow
       a = arrowAt chart i
 
-      g :
-          (1 ≤ num us (a .end)) ×
-          (gain cap (weight ticks (a .most)) (num us (a .end)) ≡ offer cap (weight ticks (a .most)) (num us (a .end)))
-      g = gains cap (weight ticks (a .most)) (num us (a .end)) h
+      some : 1 ≤ num us (a .end)
+      some = gains cap (weight ticks (a .most)) (num us (a .end)) h
+
+      same : gain cap (weight ticks (a .most)) (num us (a .end)) ≡ offer cap (weight ticks (a .most)) (num us (a .end))
+      same = offers-all cap (weight ticks (a .most)) (num us (a .end)) some
   rises-moved {k} late f (leap {vs = us} t r l i h c) =
       let g = rises-moved late f t in
       let w = led-path (c ticks .2) in

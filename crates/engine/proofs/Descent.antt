@@ -12,7 +12,7 @@ use Rattle.model.proofs.Numbers.{tabulate-num, set-elim}
 use Rattle.model.proofs.Lower.{Lowered}
 use Rattle.model.proofs.Falling.{Falling, falling-start, falling-lower}
 use Rattle.model.proofs.Least.{least-is}
-use Rattle.chart.specs.Bytes.{arrowWords, arrowOf, chartOf}
+use Rattle.chart.specs.Bytes.{chartOf}
 use Rattle.chart.specs.Shape.{Passed}
 use Rattle.chart.proofs.Chart.{arrow-mem, arrow-of}
 use Rattle.chart.proofs.Reading.{has-states, drawn, arrow-ends}

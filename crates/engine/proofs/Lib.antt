@@ -1,5 +1,5 @@
 pub mod Swept
-pub mod Marked
+pub mod Remarked
 pub mod Runs
 pub mod Descent
 pub mod Ascent

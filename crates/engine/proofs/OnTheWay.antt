@@ -19,7 +19,7 @@ use Rattle.visits.specs.declared.Way.the-variants.{Lower, Raise}
 use Rattle.visits.specs.Way.{ceilingOf, Fits, offerOf}
 use Rattle.visits.specs.Moves.{Ready, arrowAt, Held, Moved, left, Went}
 use Rattle.visits.proofs.Went.{went-left, went-held}
-use Rattle.engine.specs.Parts.{hurriedOf, Settled, Still, AtRest, Sweep, Sweeps, Runs}
+use Rattle.engine.specs.Parts.{hurriedOf, AsModel, Still, AtRest, Sweep, Sweeps, Runs}
 use Rattle.engine.specs.declared.Tally.{Tally}
 use Rattle.engine.proofs.Descent.{Falls, falls-none, falls-moved, falls-all}
 use Rattle.engine.proofs.Ascent.{rises-none, rises-less, rises-moved, rises-swept, rises-all}
@@ -111,14 +111,14 @@ module _
   end :
       (way : Way) (k : ℕ) (b : Bool) (new : List ℕ) → Model way chart go k (values old) (values new) →
       ((i : ℕ) → i < m → Held (hurriedOf way b) go (arrowAt chart i) (values new) (values new)) →
-      Settled way chart n go old new
+      AsModel way chart n go old new
   end Lower k b new f held = record { is = falls-all p go (values old) known f held }
   end (Raise climb) k b new f held = record { is = rises-all p go _ (values old) known f held }
 
   -- numbers that no arrow raises are the model's
   pub way-rest :
       {k : ℕ} {r : Bool} (new : List ℕ) → r ≡ true → Fits way → length new ≡ n → OnTheWay way chart go k old new →
-      AtRest r way new → Settled way chart n go old new
+      AtRest r way new → AsModel way chart n go old new
   way-rest {k} new e fits same u rest =
       end way k false new (u .model)
       (λ i l.
@@ -152,7 +152,7 @@ module _
           (λ i z l. held-hurried way b (still i z l))
 
       -- numbers that a sweep did not change are the model's
-      pub way-done : t .any ≡ false → Settled way chart n go old new
+      pub way-done : t .any ≡ false → AsModel way chart n go old new
       way-done f =
           let w = subst (λ any. Went (hurriedOf way b) chart m go any vs new) f (swept-at .went) in
           end way k b new (way-more b late u w .model) (λ i l. went-held w (swept-at .held i l))

@@ -1,18 +1,16 @@
 -- Numbers that no arrow raises.
-use mathlib.Core.Path.{_≡_, ap, _∙_}
+use mathlib.Core.Path.{_≡_}
 use mathlib.Core.Bool.{Bool, true}
 use mathlib.Core.List.{List}
 use Prim.Native.Nat.{ℕ, _-_, _≤_, _<_}
 use native.Mathlib.Omega.{arith}
 use lib.ListN.{length}
-use Rattle.tctl.specs.Chart.{Arrow}
 use Rattle.model.specs.Engine.{num}
-use Rattle.hints.specs.Values.{radix, valueOf, testedOf, values}
+use Rattle.hints.specs.Values.{radix, testedOf}
 use Rattle.hints.proofs.Values.{value-at}
 use Rattle.visits.specs.declared.Way.{Way}
 use Rattle.visits.specs.declared.Way.the-variants.{Lower}
 use Rattle.visits.specs.Way.{offerOf}
-use Rattle.visits.specs.Moves.{Held}
 use Rattle.visits.proofs.Tested.{sided-held}
 use Rattle.engine.specs.Parts.{AtRest}
 

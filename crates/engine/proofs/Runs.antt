@@ -4,16 +4,16 @@ use mathlib.Core.Bool.{Bool, true, false, false≢true}
 use mathlib.Core.List.{List}
 use Prim.Native.Nat.{ℕ}
 use Rattle.visits.specs.declared.Way.{Way}
-use Rattle.visits.specs.Moves.{Ready, Went, Goes}
+use Rattle.visits.specs.Moves.{Goes}
 use Rattle.visits.proofs.Went.{went-none, went-both}
-use Rattle.engine.specs.Parts.{Runs, Marked}
-use Rattle.engine.proofs.Marked.{marked-went}
+use Rattle.engine.specs.Parts.{Runs, Remarked}
+use Rattle.engine.proofs.Remarked.{marked-went}
 
 module _ (way : Way) (chart : List ℕ) (m : ℕ) where
   pub runs-none : (moved : Bool) (ns : List ℕ) → Runs way chart m moved ns ns
   runs-none moved ns go r = (false, λ e. refl, went-none r)
 
-  pub runs-marked : (moved : Bool) (us vs : List ℕ) → Marked us vs → Runs way chart m moved us vs
+  pub runs-marked : (moved : Bool) (us vs : List ℕ) → Remarked us vs → Runs way chart m moved us vs
   runs-marked moved us vs k go r = (false, λ e. refl, marked-went k r)
 
   pub runs-goes : (us vs : List ℕ) {any : Bool} → Goes way chart m any us vs → Runs way chart m any us vs

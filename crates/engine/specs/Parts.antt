@@ -15,7 +15,7 @@ use Rattle.visits.specs.Way.{Fits, leftOver}
 use Rattle.visits.specs.Moves.{Given, Ready, arrowAt, Held, Went}
 use Rattle.engine.specs.declared.Tally.{Tally}
 
--- a chart that passes checks 1 to 9, a row, and numbers with sides, whatever states are gone through
+-- a chart that passes checks 1 to 9, a row, and numbers with the sides of some go, by which what is left becomes less
 pub record Lent (way : Way) (chart : List ℕ) (n m : ℕ) (row ns : List ℕ) : Type 0 where
   pub given : Given way chart n m ns
   pub wide : length row ≡ n
@@ -32,8 +32,8 @@ abbrev pub minutesOf : Way → List ℕ → List ℕ
 minutesOf Lower vs = leftOver vs
 minutesOf (Raise climb) vs = vs
 
--- whatever states are gone through: the minutes are the model's
-pub record Settled (way : Way) (chart : List ℕ) (n : ℕ) (go : ℕ → Bool) (old new : List ℕ) : Type 0 where
+-- through the states of go the minutes are the model's
+pub record AsModel (way : Way) (chart : List ℕ) (n : ℕ) (go : ℕ → Bool) (old new : List ℕ) : Type 0 where
   pub is : minutesOf way (values new) ≡ settled way chart n go (minutesOf way (values old))
 
 -- the starts of the arrows from lo on and before hi have what these offer
@@ -72,7 +72,7 @@ Runs way chart m moved old new =
     (any : Bool) × (moved ≡ false → any ≡ false) × Went way chart m go any old new
 
 -- the numbers changed at their marks alone
-pub record Marked (old new : List ℕ) : Type 0 where
+pub record Remarked (old new : List ℕ) : Type 0 where
   pub size : length new ≡ length old
   pub tested : (s : ℕ) → testedOf (num new s) ≡ testedOf (num old s)
 

@@ -9,7 +9,7 @@ ghost use Rattle.model.specs.Engine.{num};
 ghost use Rattle.chart.specs.Shape.{Passed};
 ghost use Rattle.hints.specs.Values.{radix, testedOf};
 ghost use Rattle.visits.specs.Moves.{Given, Ready, Goes};
-ghost use Rattle.engine.specs.Parts.{Lent, Settled, Quiet, AtRest, Sweeps, Runs, Marked, hurriedOf};
+ghost use Rattle.engine.specs.Parts.{Lent, AsModel, Quiet, AtRest, Sweeps, Runs, Remarked, hurriedOf};
 use visits::Climb;
 use visits::Way;
 
@@ -37,7 +37,7 @@ fn last_raising(
     floor
 }
 
-// Whether a sweep changed a number, and the arrow that was tried last.
+// Whether a sweep changed a number, and the arrow that was tried last, m if none was.
 struct Tally {
     any: bool,
     last: usize,
@@ -70,7 +70,7 @@ fn sweep(way: Way, floor: usize, chart: &[u8], n: usize, m: usize, numbers: &mut
 }
 
 // The k-th of n from the first on, or from the last back.
-fn turn(back: bool, n: usize, k: usize) -> usize
+fn in_order(back: bool, n: usize, k: usize) -> usize
     requires { ⌜ k < n ⌝ }
     ensures { λ r. ⌜ r < n ⌝ }
 {
@@ -88,7 +88,7 @@ fn pass(way: Way, back: bool, chart: &[u8], n: usize, m: usize, numbers: &mut [u
     let mut any = false;
     let mut k = 0;
     while k < n {
-        let x = visits::follow(way, chart, n, m, turn(back, n, k), numbers);
+        let x = visits::follow(way, chart, n, m, in_order(back, n, k), numbers);
         any = any | x;
         k += 1;
     }
@@ -120,7 +120,7 @@ fn trail(
     numbers: &mut [u32],
 ) -> Steps
     requires { ⌜ Passed (now chart) n m × (length (now numbers) ≡ n) × (length (now row) ≡ n) × (from < n) ⌝ }
-    ensures { λ r. ⌜ Marked (now (numbers .entry)) (now (numbers .exit)) × (r .at < n) × (r .count ≤ n) ⌝ }
+    ensures { λ r. ⌜ Remarked (now (numbers .entry)) (now (numbers .exit)) × (r .at < n) × (r .count ≤ n) ⌝ }
 {
     let mut at = from;
     let mut k = 0;
@@ -139,7 +139,8 @@ fn trail(
     Steps { at, count: k }
 }
 
-// The walk back: the hints of the states that the row has are tried, from the last of them to the first.
+// The walk back: the hints of the states that the row has are tried, from the last of them to the first. The row is not
+// taken on trust.
 fn back(way: Way, chart: &[u8], n: usize, m: usize, count: usize, row: &[u8], numbers: &mut [u32])
     requires { ⌜ Given way (now chart) n m (now numbers) × (length (now row) ≡ n) × (count ≤ n) ⌝ }
     ensures { λ _. ⌜ Runs way (now (chart .entry)) m true (now (numbers .entry)) (now (numbers .exit)) ⌝ }
@@ -311,7 +312,7 @@ fn kept(moved: bool, floor: usize) -> usize
 fn rise(way: Way, chart: &[u8], n: usize, m: usize, row: &mut [u8], numbers: &mut [u32])
     requires { ⌜ Lent way (now chart) n m (now row) (now numbers) ⌝ }
     ensures { λ _. ⌜ ((go : ℕ → Bool) → Ready way go (now (numbers .entry)) →
-        Settled way (now (chart .entry)) n go (now (numbers .entry)) (now (numbers .exit))) ⌝ }
+        AsModel way (now (chart .entry)) n go (now (numbers .entry)) (now (numbers .exit))) ⌝ }
 {
     let mut done = 0;
     let mut seen = true;
@@ -336,7 +337,7 @@ fn rise(way: Way, chart: &[u8], n: usize, m: usize, row: &mut [u8], numbers: &mu
 pub fn settle(way: Way, chart: &[u8], n: usize, m: usize, row: &mut [u8], numbers: &mut [u32])
     requires { ⌜ Lent way (now chart) n m (now row) (now numbers) ⌝ }
     ensures { λ _. ⌜ ((go : ℕ → Bool) → Ready way go (now (numbers .entry)) →
-        Settled way (now (chart .entry)) n go (now (numbers .entry)) (now (numbers .exit))) ⌝ }
+        AsModel way (now (chart .entry)) n go (now (numbers .entry)) (now (numbers .exit))) ⌝ }
 {
     if at_rest(way, numbers) {
         return;

@@ -17,12 +17,8 @@ use Rattle.fill.specs.declared.Base.{Base}
 use Rattle.fill.specs.declared.Base.the-variants.{Reach, Goal, Fail, Stay}
 use Rattle.fill.specs.Fill.{capOf, startOf, goOf, limitOf, baseOf, placedOf}
 use Rattle.fill.specs.Parts.{Filled}
+use Rattle.visits.proofs.Reaching.{beside-value}
 use Rattle.fill.proofs.Choice.{cond-le}
-
--- a value up to the top, with or without a side
-beside-value : (b : Bool) {u : ℕ} (x : ℕ) → testedOf x ≡ beside u b → u ≤ top → valueOf x ≡ u
-beside-value true x e l = omega (arith, e)
-beside-value false x e l = omega (arith, e)
 
 -- numbers with the values v: through go they are ready
 pub record Begun (way : Way) (go : ℕ → Bool) (n : ℕ) (v : ℕ → ℕ) (ns : List ℕ) : Type 0 where

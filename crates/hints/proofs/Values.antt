@@ -5,7 +5,7 @@ use Prim.Native.Nat.{ℕ, zero, suc, _<_}
 use native.Mathlib.Omega.{arith}
 use lib.ListN.{length, set, length-map, List·getD-map}
 use Rattle.model.specs.Engine.{num}
-use Rattle.hints.specs.Values.{radix, valueOf, values}
+use Rattle.hints.specs.Values.{valueOf, values}
 
 pub value-at : (ns : List ℕ) (s : ℕ) → valueOf (num ns s) ≡ num (values ns) s
 value-at ns s = sym (List·getD-map valueOf ns s 0)

@@ -1,6 +1,6 @@
 // Numbers with hints: for each state an arrow that it may leave by. From below a number is a value, a side, a mark of
 // walks and a hint, an arrow's number. The side puts a state where no comparison changes it. Nobody takes hints on trust:
-// what is found by them is tested.
+// what is found by them is tested, and nothing is promised of hints and marks.
 ghost use mathlib.Core.Path.{_≡_};
 ghost use mathlib.Core.Bool.{Bool, true, cond};
 ghost use Prim.Native.Nat.{ℕ, _+_, _<_};
@@ -10,14 +10,17 @@ ghost use Rattle.words.specs.Word.{word};
 ghost use Rattle.chart.specs.Bytes.{arrowWords, chartOf};
 ghost use Rattle.chart.specs.Shape.{Small, Inside, Passed};
 ghost use Rattle.hints.specs.Circle.{Circles};
-ghost use Rattle.hints.specs.Read.{Low, Drawn};
+ghost use Rattle.hints.specs.Read.{Low, Joined};
 ghost use Rattle.hints.specs.Values.{sided, valueOf, testedOf, Open};
 use chart::ArrowWords;
 
+// Values are below it, and a side is worth it.
 pub const RADIX: u32 = 262144;
 
+// Values with their sides are below it, and a mark is worth it.
 pub const SIDED: u32 = 524288;
 
+// The hint counts it.
 const HINT: u32 = 1048576;
 
 // The value of the number x.
@@ -103,7 +106,7 @@ fn low_arrow(chart: &[u8], n: usize, i: usize) -> ArrowWords
 // Arrow i of a chart that passed.
 pub fn arrow(chart: &[u8], n: usize, m: usize, i: usize) -> ArrowWords
     requires { ⌜ Passed (now chart) n m × (i < m) ⌝ }
-    ensures { λ r. ⌜ (r ≡ arrowWords (now (chart .entry)) i) × Drawn n r ⌝ }
+    ensures { λ r. ⌜ (r ≡ arrowWords (now (chart .entry)) i) × Joined n r ⌝ }
 {
     low_arrow(chart, n, i)
 }
@@ -132,7 +135,7 @@ fn time_passes(passes: bool, most: u32) -> bool
 }
 
 // The hints lead from r back to r, by so many arrows at most, through states whose numbers have no side, and time can
-// pass on the way. Whatever the arrows weigh, that is a loop.
+// pass on the way. It is such a loop by minutes and by ticks.
 pub fn circles(chart: &[u8], n: usize, m: usize, most: usize, numbers: &[u32], r: usize) -> bool
     requires { ⌜ Passed (now chart) n m × (length (now numbers) ≡ n) × (r < n) ⌝ }
     ensures { λ b. ⌜ ((go : ℕ → Bool) → Open go (now (numbers .entry)) → Circles b (chartOf (now (chart .entry))) go r) ⌝ }

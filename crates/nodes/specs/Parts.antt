@@ -28,7 +28,7 @@ pub record OperandsBelow (t : ℕ) (w : NodeWords) : Type 0 where
   pub left : w .a < t
   pub right : w .b < t
 
--- a cap in range, and numbers with sides, whatever states are gone through
+-- a cap in range, and numbers with the sides of some go
 pub record Able (way : Way) (numbers : List ℕ) : Type 0 where
   pub fits : Fits way
   pub go : ℕ → Bool

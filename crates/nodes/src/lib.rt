@@ -11,7 +11,7 @@ ghost use Rattle.rule.specs.Formula.{boundOf, formulaAt};
 ghost use Rattle.model.specs.Weighed.{weighed};
 ghost use Rattle.visits.specs.Way.{highest};
 ghost use Rattle.visits.specs.Moves.{Ready};
-ghost use Rattle.engine.specs.Parts.{Settled};
+ghost use Rattle.engine.specs.Parts.{AsModel};
 ghost use Rattle.fill.specs.Parts.{Wrote};
 ghost use Rattle.nodes.specs.Parts.{Lent, OperandsBelow, Able, Besides, Node, Operands};
 ghost use Rattle.nodes.specs.Untils.{Suits, Risen, Starts, untilRow};
@@ -26,7 +26,7 @@ fn run(way: Way, chart: &[u8], n: usize, m: usize, t: usize, marks: &mut [u8], n
     requires { ⌜ Lent (now chart) n m t (now marks) (now numbers) × Able way (now numbers) ⌝ }
     ensures { λ _. ⌜ Besides n t (now (marks .entry)) (now (marks .exit))
         × ((go : ℕ → Bool) → Ready way go (now (numbers .entry)) →
-        Settled way (now (chart .entry)) n go (now (numbers .entry)) (now (numbers .exit))) ⌝ }
+        AsModel way (now (chart .entry)) n go (now (numbers .entry)) (now (numbers .exit))) ⌝ }
 {
     let at = t * n;
     let end = at + n;

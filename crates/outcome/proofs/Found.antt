@@ -13,15 +13,6 @@ pub found-none : (o : Option ℕ) → found o ≡ false → o ≡ none
 found-none (some i) e = absurd (false≢true (sym e))
 found-none none e = refl
 
--- where the next number offends, a place is found; where it does not, what was found stays
-pub found-here : (o : Option ℕ) (i : ℕ) → found (orElse o true i) ≡ true
-found-here (some j) i = refl
-found-here none i = refl
-
-pub found-other : (o : Option ℕ) (i : ℕ) → found (orElse o false i) ≡ found o
-found-other (some j) i = refl
-found-other none i = refl
-
 pub or-none : (o : Option ℕ) (b : Bool) (i : ℕ) → orElse o b i ≡ none → (o ≡ none) × (b ≡ false)
 or-none (some j) b i e = absurd (Option·some-ne-none j e)
 or-none none true i e = absurd (Option·some-ne-none i e)

@@ -1,15 +1,15 @@
 -- Values that moved: none went back.
-use mathlib.Core.Path.{_≡_, refl, sym}
+use mathlib.Core.Path.{sym}
 use mathlib.Core.Bool.{Bool}
 use mathlib.Core.List.{List}
-use Prim.Native.Nat.{ℕ, _≤_, _<_}
+use Prim.Native.Nat.{ℕ, _≤_}
 use native.Mathlib.Omega.{arith}
-use lib.ListN.{length, set, length-set}
+use lib.ListN.{set, length-set}
 use Rattle.tctl.specs.Chart.{Arrow}
 use Rattle.model.specs.Engine.{num}
 use Rattle.model.proofs.Numbers.{set-elim, Below, below-refl, below-trans}
 use Rattle.visits.specs.declared.Way.{Way}
-use Rattle.visits.specs.Way.{ceilingOf, leapsOf, offerOf, reachedOf}
+use Rattle.visits.specs.Way.{ceilingOf, reachedOf}
 use Rattle.visits.specs.Moves.{arrowAt, offerAt, Held, Moved, none, more, leap}
 use Rattle.visits.proofs.Offer.{offers-more, reaches}
 

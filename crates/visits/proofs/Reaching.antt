@@ -4,12 +4,16 @@ use mathlib.Core.Bool.{Bool, true, false, cond}
 use mathlib.Core.Bool.{not as neg}
 use Prim.Native.Nat.{ℕ, _+_, _≤_, _<_, min}
 use native.Mathlib.Omega.{arith}
-use lib.Dec.{ltb}
 use borrow.Author.Tests.{lt-ltb, le-ltb}
-use Rattle.hints.specs.Values.{radix}
+use Rattle.hints.specs.Values.{radix, valueOf, testedOf}
 use Rattle.visits.specs.declared.Way.{Way}
 use Rattle.visits.specs.declared.Way.the-variants.{Lower, Raise}
 use Rattle.visits.specs.Way.{top, Fits, ceilingOf, leapsOf, reachedOf, beside, Reached}
+
+-- a value with or without a side, up to the top
+pub beside-value : (b : Bool) {u : ℕ} (x : ℕ) → testedOf x ≡ beside u b → u ≤ top → valueOf x ≡ u
+beside-value true x e l = omega (arith, e)
+beside-value false x e l = omega (arith, e)
 
 pub low-ceiling : (way : Way) → Fits way → ceilingOf way ≤ top
 unfolding ceilingOf

@@ -11,10 +11,9 @@ use borrow.Author.Tests.{le-ltb}
 use Rattle.model.specs.Engine.{num}
 use Rattle.chart.specs.Bytes.{chartOf}
 use Rattle.hints.specs.Circle.{Circled}
-use Rattle.hints.specs.Values.{radix, valueOf, testedOf, values, Open}
+use Rattle.hints.specs.Values.{radix, testedOf, values, Open}
 use Rattle.hints.proofs.Values.{values-length}
 use Rattle.visits.specs.declared.Climb.{Climb}
-use Rattle.visits.specs.declared.Way.{Way}
 use Rattle.visits.specs.declared.Way.the-variants.{Raise}
 use Rattle.visits.specs.Way.{highest, ceilingOf, beside}
 use Rattle.visits.specs.Moves.{Ready, none, leap, Went}

@@ -3,7 +3,7 @@ use mathlib.Core.Path.{_≡_, refl, ap, _∙_}
 use mathlib.Core.Bool.{Bool, true, false, _&&_}
 use mathlib.Core.Bool.{not as neg}
 use mathlib.Core.List.{List}
-use Prim.Native.Nat.{ℕ, zero, suc, _+_, _≤_, _<_, min}
+use Prim.Native.Nat.{ℕ, zero, suc, _≤_, _<_, min}
 use native.Mathlib.Omega.{arith}
 use lib.ListN.{length}
 use lib.Dec.{ltb}
@@ -12,7 +12,7 @@ use Rattle.tctl.specs.Chart.{Arrow}
 use Rattle.model.specs.Engine.{num}
 use Rattle.model.specs.Weighed.{weight}
 use Rattle.model.proofs.Raise.{offer-le}
-use Rattle.hints.specs.Values.{radix, valueOf, testedOf, values}
+use Rattle.hints.specs.Values.{radix, testedOf, values}
 use Rattle.hints.proofs.Values.{value-at}
 use Rattle.visits.specs.declared.Way.{Way}
 use Rattle.visits.specs.declared.Way.the-variants.{Lower, Raise}

@@ -1,9 +1,9 @@
 -- An arrow that is tried: its start has what it offers, or gets it.
-use mathlib.Core.Path.{_≡_, refl, sym, ap, subst, _∙_}
-use mathlib.Core.Bool.{Bool, true, false, cond, _&&_}
+use mathlib.Core.Path.{_≡_, sym, ap, subst, _∙_}
+use mathlib.Core.Bool.{Bool, true, false, _&&_}
 use mathlib.Core.Bool.{not as neg}
 use mathlib.Core.List.{List}
-use Prim.Native.Nat.{ℕ, _+_, _≤_, _<_, min}
+use Prim.Native.Nat.{ℕ, _≤_, _<_, min}
 use native.Mathlib.Omega.{arith}
 use lib.ListN.{length, set}
 use lib.Seq.{getD-set-same}
@@ -17,14 +17,9 @@ use Rattle.hints.proofs.Values.{value-at, values-set, values-length}
 use Rattle.visits.specs.declared.Way.{Way}
 use Rattle.visits.specs.Way.{top, Fits, ceilingOf, leapsOf, offerOf, reachedOf, beside, Offers, Reached}
 use Rattle.visits.specs.Moves.{Ready, arrowAt, Held, Moved, none, more, Went}
-use Rattle.visits.proofs.Reaching.{low-ceiling}
+use Rattle.visits.proofs.Reaching.{beside-value, low-ceiling}
 use Rattle.visits.proofs.Tested.{tested-open, tested-held}
 use Rattle.visits.proofs.Went.{went-set}
-
--- a value with or without a side, up to the top
-beside-value : (b : Bool) {u : ℕ} (x : ℕ) → testedOf x ≡ beside u b → u ≤ top → valueOf x ≡ u
-beside-value true x e l = omega (arith, e)
-beside-value false x e l = omega (arith, e)
 
 module _
     {way : Way} (fits : Fits way) (chart ns : List ℕ) (m i : ℕ) {w : ArrowWords} (is : w ≡ arrowWords chart i)

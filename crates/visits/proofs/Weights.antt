@@ -2,18 +2,17 @@
 use mathlib.Core.Path.{_≡_, refl, ap, _∙_}
 use mathlib.Core.Bool.{Bool, true, false, cond}
 use mathlib.Core.Bool.{not as neg}
-use Prim.Native.Nat.{ℕ, zero, suc, _+_, _*_, _≤_, _<_, min}
+use Prim.Native.Nat.{ℕ, zero, suc, _+_, _*_, min}
 use native.Mathlib.Omega.{arith}
 use mir.Val.{boolByte}
 use lib.Dec.{eqb}
 use borrow.Author.Tests.{eqb-true, ne-eqb}
-use Rattle.tctl.specs.Chart.{Most, upTo, noEnd}
+use Rattle.tctl.specs.Chart.{upTo, noEnd}
 use Rattle.model.specs.Engine.{offer}
 use Rattle.model.specs.Decide.{tick}
-use Rattle.model.specs.Weighed.{weight}
-use Rattle.chart.specs.Bytes.{isNoEnd, mostOf}
-use Rattle.chart.specs.Shape.{longest, InRange}
-use Rattle.visits.specs.Way.{highest, gain, Weighs, Increased}
+use Rattle.chart.specs.Bytes.{isNoEnd}
+use Rattle.chart.specs.Shape.{InRange}
+use Rattle.visits.specs.Way.{Weighs, Increased}
 
 -- a tick, or no time
 pub ticks-weigh : (most : ℕ) {r : ℕ} → r ≡ boolByte (neg (eqb most 0)) → Weighs true most r

@@ -10,7 +10,7 @@ use Rattle.tctl.specs.Chart.{Arrow}
 use Rattle.model.specs.Engine.{num}
 use Rattle.model.proofs.Numbers.{set-elim, Below}
 use Rattle.hints.specs.Values.{valueOf, testedOf, values}
-use Rattle.hints.proofs.Values.{value-at, values-set, values-length}
+use Rattle.hints.proofs.Values.{values-set, values-length}
 use Rattle.visits.specs.declared.Way.{Way}
 use Rattle.visits.specs.Way.{top, ceilingOf, sideOf, beside}
 use Rattle.visits.specs.Moves.{Given, Ready, Held, Moved, none, total, left, Went}

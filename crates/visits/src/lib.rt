@@ -3,13 +3,14 @@
 // either way. What is promised is about values; hints and marks may be anything.
 ghost use mathlib.Core.Path.{_≡_};
 ghost use mathlib.Core.Bool.{Bool, false};
-ghost use Prim.Native.Nat.{ℕ, _+_, _-_, _≤_, _<_, min};
+ghost use Prim.Native.Nat.{ℕ, _-_, _<_, min};
 ghost use Rattle.chart.specs.Shape.{InRange, Slot};
 ghost use Rattle.hints.specs.Values.{radix, sided, values};
 ghost use Rattle.visits.specs.Way.{ceilingOf, leapsOf, Fits, Weighs, Increased, Offers, Beats, Reached};
 ghost use Rattle.visits.specs.Moves.{Given, Ready, arrowAt, Held, Goes, Visits};
 use chart::ArrowWords;
 
+// What minutes that fall are taken from.
 pub const TOP: u32 = 131072;
 
 // How numbers rise: by the most minutes or by a tick, to what that gives or to the cap at once.
@@ -77,7 +78,8 @@ fn lessened(fewest: u32, there: u32) -> u32
     there - fewest
 }
 
-// What a number comes to by the word most. From 0 there is no offer: a product instead of a test, for the same reason.
+// What a number comes to by the word most. From 0 there is no offer: a product instead of a test, for the same reason. Its
+// factor is above every weight.
 fn increased(ticks: bool, most: u32, there: u32) -> u32
     requires { ⌜ InRange most × (there < radix) ⌝ }
     ensures { λ r. ⌜ Increased ticks most there r ⌝ }

@@ -1,6 +1,4 @@
 -- Passes, and a walk.
-use mathlib.Core.Path.{_≡_, subst}
-use native.Mathlib.Omega.{arith}
 use borrow.Author.Needs.{needs}
 use borrow.Author.Tests.{not-true}
 use Rattle.visits.proofs.Went.{given-still}

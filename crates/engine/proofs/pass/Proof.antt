@@ -26,7 +26,7 @@ follow-requires : tie.Need-follow-requires Inv-loop μ-loop
 follow-requires c κs =
     let at-loop = c .before .before .before in
     let p = start at-loop .pre in
-    (given-still p (at-loop .loop .inv .1), c .before .turn .ensures)
+    (given-still p (at-loop .loop .inv .1), c .before .in-order .ensures)
 
 loop-again : tie.Need-loop-again Inv-loop μ-loop
 loop-again c =

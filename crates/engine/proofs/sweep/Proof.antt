@@ -1,7 +1,7 @@
 -- Invariant: the arrows from i on were tried, and those before the last one that was raise no number now.
 use mathlib.Core.Path.{_≡_}
 use mathlib.Core.Bool.{Bool}
-use Prim.Native.Nat.{ℕ, _≤_, _<_}
+use Prim.Native.Nat.{ℕ, _≤_}
 use native.Mathlib.Omega.{arith}
 use lib.ListN.{length}
 use Rattle.visits.specs.Moves.{Ready}

@@ -1,6 +1,5 @@
 -- Invariant: the numbers changed at their marks alone, and the walk is at a state.
 use mathlib.Core.Path.{_≡_}
-use mathlib.Core.Bool.{_||_}
 use Prim.Native.Nat.{_≤_, _<_, _-_}
 use native.Mathlib.Omega.{arith}
 use lib.ListN.{length, length-set}
@@ -8,14 +7,14 @@ use lib.Dec.{leb}
 use borrow.Author.Tests.{leb-false}
 use Rattle.truth.proofs.Truth.{or-false}
 use Rattle.chart.proofs.Reading.{shaped}
-use Rattle.engine.specs.Parts.{Marked}
-use Rattle.engine.proofs.Marked.{marked-none, marked-set}
+use Rattle.engine.specs.Parts.{Remarked}
+use Rattle.engine.proofs.Remarked.{marked-none, marked-set}
 use Rattle.engine.proofs.trail.Statement.{statement}
 use Rattle.engine.proofs.trail.Tie as tie
 
 abbrev Inv-loop : tie.InvT-loop
 Inv-loop seen chart n m from row₀ numbers₀ at₀ k₀ row numbers at k =
-    (k ≤ n) × (at < n) × (length row ≡ n) × (length numbers ≡ n) × Marked numbers₀ numbers
+    (k ≤ n) × (at < n) × (length row ≡ n) × (length numbers ≡ n) × Remarked numbers₀ numbers
 
 abbrev μ-loop : tie.MeasureT-loop
 μ-loop seen chart n m from row₀ numbers₀ at₀ k₀ row numbers at k = n - k

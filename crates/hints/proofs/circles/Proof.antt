@@ -1,5 +1,5 @@
 -- Invariant: arrows through states that are gone through lead from r to the state.
-use mathlib.Core.Path.{sym, ap, subst}
+use mathlib.Core.Path.{sym, subst}
 use mathlib.Core.Bool.{Bool, false≢true}
 use mathlib.Core.List.{List·Memᴰ}
 use Prim.Native.Nat.{ℕ, _≤_, _<_, _-_}

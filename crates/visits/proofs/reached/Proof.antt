@@ -1,5 +1,4 @@
 -- The three cases: a leap, an offer from the ceiling on, and one below it.
-use mathlib.Core.Path.{sym, subst}
 use native.Mathlib.Omega.{arith}
 use borrow.Author.Needs.{needs}
 use Rattle.visits.proofs.Reaching.{low-ceiling, reach-leap, reach-full, reach-part}

@@ -2,9 +2,9 @@
 use mathlib.Core.Path.{_≡_, refl, sym, ap, _∙_}
 use mathlib.Core.Bool.{Bool, false, false≢true}
 use mathlib.Core.List.{List}
-use Prim.Native.Nat.{ℕ, _<_}
+use Prim.Native.Nat.{ℕ}
 use native.Mathlib.Omega.{arith}
-use lib.ListN.{length, set, length-set}
+use lib.ListN.{set, length-set}
 use lib.Seq.{ext-getD}
 use Rattle.model.specs.Engine.{num}
 use Rattle.model.proofs.Numbers.{set-elim}
@@ -13,13 +13,13 @@ use Rattle.hints.proofs.Values.{value-at, values-length}
 use Rattle.visits.specs.declared.Way.{Way}
 use Rattle.visits.specs.Way.{sideOf, beside}
 use Rattle.visits.specs.Moves.{Ready, none, Went}
-use Rattle.engine.specs.Parts.{Marked}
+use Rattle.engine.specs.Parts.{Remarked}
 
-pub marked-none : {ns : List ℕ} → Marked ns ns
+pub marked-none : {ns : List ℕ} → Remarked ns ns
 marked-none = record { size = refl; tested = λ s. refl }
 
 pub marked-set :
-    {old new : List ℕ} → Marked old new → (s x : ℕ) → testedOf x ≡ testedOf (num new s) → Marked old (set new s x)
+    {old new : List ℕ} → Remarked old new → (s x : ℕ) → testedOf x ≡ testedOf (num new s) → Remarked old (set new s x)
 marked-set {old} {new} k s x e =
     record {
       size = length-set new s x ∙ k .size;
@@ -27,7 +27,7 @@ marked-set {old} {new} k s x e =
     }
 
 pub marked-went :
-    {way : Way} {chart : List ℕ} {m : ℕ} {go : ℕ → Bool} {old new : List ℕ} → Marked old new → Ready way go old →
+    {way : Way} {chart : List ℕ} {m : ℕ} {go : ℕ → Bool} {old new : List ℕ} → Remarked old new → Ready way go old →
     Went way chart m go false old new
 marked-went {way} {chart} {m} {go} {old} {new} k r =
     record {
