@@ -20,17 +20,24 @@ Inv-loop overview k l lo hi from to a j₀ j =
 abbrev μ-loop : tie.MeasureT-loop
 μ-loop overview k l lo hi from to a j₀ j = hi - j
 
+-- the start, and the loop's stop
+abbrev start : tie.At-loop Inv-loop μ-loop → tie.Start Inv-loop μ-loop
+start c = c .before .before
+
+abbrev loop : tie.After-arrow-at Inv-loop μ-loop → tie.At-loop Inv-loop μ-loop
+loop c = c .before .before
+
 module _ (c : tie.After-covers-arrow Inv-loop μ-loop) where
   abbrev at-loop : tie.At-loop Inv-loop μ-loop
-  at-loop = c .before .before .before
+  at-loop = loop (c .before)
 
   -- what the test of arrow j tells of it
   told :
       {b : Bool} → c .covers-arrow .result ≡ b →
-      let a = at-loop .before .before .args in
+      let a = start at-loop .args in
       covers (a .from) (a .to) (arrowOf (a .a)) (arrowOf (arrowWords (now (a .overview)) (at-loop .loop .j))) ≡ b
   told g =
-      let a = at-loop .before .before .args in
+      let a = start at-loop .args in
       covers-read (now (a .overview)) (a .from) (a .to) (arrowOf (a .a)) (at-loop .loop .j)
       (c .before .arrow-at .ensures .0) (c .covers-arrow .ensures) g
 
@@ -39,12 +46,12 @@ loop-holds c = (omega arith, λ i h m. absurd (let z : ⊥ = omega arith in z))
 
 arrow-at-requires : tie.Need-arrow-at-requires Inv-loop μ-loop
 arrow-at-requires c κs =
-    let p = c .before .before .before .pre in
+    let p = start (c .before) .pre in
     arrow-inside (shaped (p .0)) (omega (arith, c .loop-test .taken))
 
 covers-arrow-requires : tie.Need-covers-arrow-requires Inv-loop μ-loop
 covers-arrow-requires c κs =
-    let p = c .before .before .before .before .pre in
+    let p = start (loop c) .pre in
     (p .3, p .4, c .arrow-at .ensures .1)
 
 returns : tie.Need-returns Inv-loop μ-loop

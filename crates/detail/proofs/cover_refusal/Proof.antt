@@ -23,15 +23,22 @@ Inv-loop detail n m overview k l map i₀ near₀ i near =
 abbrev μ-loop : tie.MeasureT-loop
 μ-loop detail n m overview k l map i₀ near₀ i near = m - i
 
+-- the stops, each from a later one: the start, the loop's, and where an arrow was read
+abbrev begun : tie.At-loop Inv-loop μ-loop → tie.Start Inv-loop μ-loop
+begun c = c .before .before .before .before
+
+abbrev loop : tie.After-arrow-at Inv-loop μ-loop → tie.At-loop Inv-loop μ-loop
+loop c = c .before .before
+
 module _ (c : tie.After-covering-arrow Inv-loop μ-loop) where
   abbrev read : tie.After-arrow-at Inv-loop μ-loop
   read = c .before .before .before
 
   abbrev at-loop : tie.At-loop Inv-loop μ-loop
-  at-loop = read .before .before
+  at-loop = loop read
 
   abbrev start : tie.Start Inv-loop μ-loop
-  start = at-loop .before .before .before .before
+  start = begun at-loop
 
   -- what the search for a covering arrow tells of arrow i
   told :
@@ -48,25 +55,25 @@ loop-holds : tie.Need-loop-holds Inv-loop μ-loop
 loop-holds c = (omega arith, omega arith, below-none _)
 
 arrow-at-requires : tie.Need-arrow-at-requires Inv-loop μ-loop
-arrow-at-requires c κs = arrow-inside (shaped (c .before .before .before .before .before .pre .0)) (c .loop-test .taken)
+arrow-at-requires c κs = arrow-inside (shaped (begun (c .before) .pre .0)) (c .loop-test .taken)
 
 entry-at-requires : tie.Need-entry-at-requires Inv-loop μ-loop
 entry-at-requires c κs =
-    let p = c .before .before .before .before .before .before .pre in
-    let below = arrow-ends (p .0) (c .before .before .loop .i) (c .before .loop-test .taken) in
+    let p = begun (loop c) .pre in
+    let below = arrow-ends (p .0) (loop c .loop .i) (c .before .loop-test .taken) in
     let e = ap (λ (w : ArrowWords). w .start) (c .arrow-at .ensures .0) in
     omega (arith, p .2 .whole, below .0)
 
 entry-at-requires-2 : tie.Need-entry-at-requires-2 Inv-loop μ-loop
 entry-at-requires-2 c κs =
-    let p = c .before .before .before .before .before .before .before .pre in
-    let below = arrow-ends (p .0) (c .before .before .before .loop .i) (c .before .before .loop-test .taken) in
+    let p = begun (loop (c .before)) .pre in
+    let below = arrow-ends (p .0) (loop (c .before) .loop .i) (c .before .before .loop-test .taken) in
     let e = ap (λ (w : ArrowWords). w .end) (c .before .arrow-at .ensures .0) in
     omega (arith, p .2 .whole, below .1)
 
 covering-arrow-requires : tie.Need-covering-arrow-requires Inv-loop μ-loop
 covering-arrow-requires c κs =
-    let p = c .before .before .before .before .before .before .before .before .pre in
+    let p = begun (loop (c .before .before)) .pre in
     (p .1, omega arith, c .before .entry-at .ensures .1, c .entry-at2 .ensures .1)
 
 cast-refused : tie.Need-cast-refused Inv-loop μ-loop

@@ -25,25 +25,25 @@ full c = c .before .before
 abbrev read : tie.After-either Inv-loop μ-loop → tie.After-arrow Inv-loop μ-loop
 read c = full c .before .before
 
+abbrev start : tie.At-loop Inv-loop μ-loop → tie.Start Inv-loop μ-loop
+start c = c .before .before .before .before
+
 module _ (c : tie.After-arrow Inv-loop μ-loop) where
   abbrev loop : tie.At-loop Inv-loop μ-loop
   loop = c .before .before
 
-  abbrev start : tie.Start Inv-loop μ-loop
-  start = loop .before .before .before .before
-
   -- the arrow starts and ends at states
   starts : c .arrow .result .start < length (loop .loop .numbers)
-  starts = omega (arith, c .arrow .ensures .1 .start, loop .loop .inv .1 .size, start .pre .2)
+  starts = omega (arith, c .arrow .ensures .1 .start, loop .loop .inv .1 .size, start loop .pre .2)
 
   -- a state's place in memory
   fits : Fits w64 (c .arrow .result .start * 4)
-  fits = omega (arith, c .arrow .ensures .1 .start, shaped (start .pre .0) .few-states)
+  fits = omega (arith, c .arrow .ensures .1 .start, shaped (start loop .pre .0) .few-states)
 
 shared-slice-read-either : tie.Need-shared-slice-read-either Inv-loop μ-loop
 shared-slice-read-either c =
     let arrow = c .before .before .before in
-    omega (arith, arrow .arrow .ensures .1 .end, start arrow .pre .1)
+    omega (arith, arrow .arrow .ensures .1 .end, start (loop arrow) .pre .1)
 
 loop-again : tie.Need-loop-again Inv-loop μ-loop
 loop-again c =
@@ -58,13 +58,13 @@ same-length c = c .before .loop .inv .1 .size
 
 returns : tie.Need-returns Inv-loop μ-loop
 returns c =
-    let p = c .before .before .before .before .before .pre in
+    let p = start (c .before) .pre in
     cleared-sured (cleared-all (omega (arith, p .0 .arrows)) (c .before .loop .inv .1)) (p .2)
 
 pub clear-each-spec : {M : Type 1} → statement M
 clear-each-spec =
     tie.close
     (tie.spec Inv-loop μ-loop loop-holds
-    (λ c κs. (c .before .before .before .before .before .pre .0, c .loop-test .taken)) fits (λ c. starts (c .before))
+    (λ c κs. (start (c .before) .pre .0, c .loop-test .taken)) fits (λ c. starts (c .before))
     (λ c. omega arith) (λ c κs. omega arith) shared-slice-read-either (λ c κs. tt) (λ c. fits (read c))
     (λ c. starts (read c)) (λ c. omega arith) (λ c. omega arith) loop-again same-length returns)

@@ -19,6 +19,22 @@ Inv-loop chart n m most numbers r at₀ passes₀ k₀ at passes k =
 abbrev μ-loop : tie.MeasureT-loop
 μ-loop chart n m most numbers r at₀ passes₀ k₀ at passes k = most - k
 
+-- the stops of a round, each from a later one, and the start
+abbrev start : tie.At-loop Inv-loop μ-loop → tie.Start Inv-loop μ-loop
+start c = c .before .before .before
+
+abbrev hinted : tie.Else1 Inv-loop μ-loop → tie.After-hint Inv-loop μ-loop
+hinted c = c .before
+
+abbrev loop : tie.Else1 Inv-loop μ-loop → tie.At-loop Inv-loop μ-loop
+loop c = hinted c .before .before .before
+
+abbrev read : tie.After-time-passes Inv-loop μ-loop → tie.After-arrow Inv-loop μ-loop
+read c = c .before .before .before .before .before
+
+abbrev inside : tie.After-time-passes Inv-loop μ-loop → tie.Else1 Inv-loop μ-loop
+inside c = read c .before
+
 loop-holds : tie.Need-loop-holds Inv-loop μ-loop
 loop-holds c = (omega arith, c .before .before .pre .2, λ go opens. led-none)
 
@@ -26,7 +42,7 @@ returns : tie.Need-returns Inv-loop μ-loop
 returns c = λ go opens e. absurd (false≢true e)
 
 arrow-requires : tie.Need-arrow-requires Inv-loop μ-loop
-arrow-requires c κs = (c .before .before .before .before .before .before .before .pre .0, c .if1 .left)
+arrow-requires c κs = (start (loop c) .pre .0, c .if1 .left)
 
 returns-2 : tie.Need-returns-2 Inv-loop μ-loop
 returns-2 c = λ go opens e. absurd (false≢true e)
@@ -37,36 +53,31 @@ returns-3 c = λ go opens e. absurd (false≢true e)
 -- one arrow more
 more :
     (c : tie.After-time-passes Inv-loop μ-loop) →
-    let read = c .before .before .before .before .before in
-    let start = read .before .before .before .before .before .before .before .before in
-    (go : ℕ → Bool) → Open go (now (start .args .numbers)) →
-    Led (chartOf (now (start .args .chart))) go (start .args .r) (read .arrow .result .end) (c .time-passes .result)
+    let a = start (loop (inside c)) .args in
+    (go : ℕ → Bool) → Open go (now (a .numbers)) →
+    Led (chartOf (now (a .chart))) go (a .r) (read c .arrow .result .end) (c .time-passes .result)
 more c =
     let bared = c .before in
     let left = bared .before .before in
-    let read = left .before .before in
-    let hint = read .before .before in
-    let at-loop = hint .before .before .before in
-    let start = at-loop .before .before .before in
-    let chart = now (start .args .chart) in
-    let i = hint .hint .result in
-    let w = read .arrow .result in
-    let e = read .arrow .ensures .0 in
-    let l : i < arrowCount chart = omega (arith, read .before .if1 .left, start .pre .0 .arrows) in
+    let at-loop = loop (inside c) in
+    let begun = start at-loop in
+    let chart = now (begun .args .chart) in
+    let i = hinted (inside c) .hint .result in
+    let w = read c .arrow .result in
+    let e = read c .arrow .ensures .0 in
+    let l : i < arrowCount chart = omega (arith, inside c .if1 .left, begun .pre .0 .arrows) in
     let mem = subst (λ v. List·Memᴰ (arrowOf v) (chartOf chart .arrows)) (sym e) (arrow-mem chart i l) in
     let at = at-loop .loop .at in
     λ go opens.
     led-more (at-loop .loop .inv .2 go opens) w mem (left .if2 .left)
-    (opens at (omega (arith, at-loop .loop .inv .1, start .pre .1))
+    (opens at (omega (arith, at-loop .loop .inv .1, begun .pre .1))
     (omega (arith, bared .before .tested .ensures, bared .if3 .left))) (c .time-passes .ensures)
 
 returns-4 : tie.Need-returns-4 Inv-loop μ-loop
 returns-4 c = λ go opens. led-round (more (c .before) go opens) (c .if4 .taken)
 
 loop-again : tie.Need-loop-again Inv-loop μ-loop
-loop-again c =
-    let read = c .before .before .before .before .before .before in
-    (omega arith, read .arrow .ensures .1 .end, more (c .before))
+loop-again c = (omega arith, read (c .before) .arrow .ensures .1 .end, more (c .before))
 
 returns-5 : tie.Need-returns-5 Inv-loop μ-loop
 returns-5 c = λ go opens e. absurd (false≢true e)

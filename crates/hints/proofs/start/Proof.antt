@@ -13,7 +13,13 @@ Inv-loop chart n m numbers₀ i₀ numbers i = (i ≤ m) × (length numbers ≡ 
 abbrev μ-loop : tie.MeasureT-loop
 μ-loop chart n m numbers₀ i₀ numbers i = m - i
 
--- where an arrow was read
+-- the stops, each from a later one: the start, the loop's, and where an arrow was read
+abbrev begun : tie.At-loop Inv-loop μ-loop → tie.Start Inv-loop μ-loop
+begun c = c .before .before .before
+
+abbrev loop : tie.After-arrow Inv-loop μ-loop → tie.At-loop Inv-loop μ-loop
+loop c = c .before .before
+
 abbrev read : tie.After-hinted Inv-loop μ-loop → tie.After-arrow Inv-loop μ-loop
 read c = c .before
 
@@ -22,25 +28,23 @@ loop-holds c = (omega arith, c .before .before .pre .1)
 
 hinted-requires : tie.Need-hinted-requires Inv-loop μ-loop
 hinted-requires c κs =
-    let at-loop = c .before .before in
-    (omega arith, omega (arith, c .before .loop-test .taken, shaped (at-loop .before .before .before .pre .0) .few-arrows))
+    (omega arith, omega (arith, c .before .loop-test .taken, shaped (begun (loop c) .pre .0) .few-arrows))
 
 mul-numbers : tie.Need-mul-numbers Inv-loop μ-loop
 mul-numbers c =
-    let at-loop = read c .before .before in
-    omega (arith, read c .arrow .ensures .1 .start, shaped (at-loop .before .before .before .pre .0) .few-states)
+    omega (arith, read c .arrow .ensures .1 .start, shaped (begun (loop (read c)) .pre .0) .few-states)
 
 slice-write-numbers : tie.Need-slice-write-numbers Inv-loop μ-loop
-slice-write-numbers c = omega (arith, read c .arrow .ensures .1 .start, read c .before .before .loop .inv .1)
+slice-write-numbers c = omega (arith, read c .arrow .ensures .1 .start, loop (read c) .loop .inv .1)
 
 loop-again : tie.Need-loop-again Inv-loop μ-loop
-loop-again c = (omega arith, simp length-set (read c .before .before .loop .inv .1))
+loop-again c = (omega arith, simp length-set (loop (read c) .loop .inv .1))
 
 same-length : tie.Need-same-length Inv-loop μ-loop
-same-length c = omega (arith, c .before .loop .inv .1, c .before .before .before .before .pre .1)
+same-length c = omega (arith, c .before .loop .inv .1, begun (c .before) .pre .1)
 
 pub start-spec : {M : Type 1} → statement M
 start-spec =
     tie.close
-    (tie.spec Inv-loop μ-loop loop-holds (λ c κs. (c .before .before .before .before .pre .0, c .loop-test .taken)) hinted-requires
+    (tie.spec Inv-loop μ-loop loop-holds (λ c κs. (begun (c .before) .pre .0, c .loop-test .taken)) hinted-requires
     mul-numbers slice-write-numbers (λ c. omega arith) (λ c. omega arith) loop-again same-length (λ c. tt))

@@ -12,10 +12,16 @@ use Rattle.nodes.proofs.Lent.{rows-inside}
 use Rattle.nodes.proofs.run_from.Statement.{statement}
 use Rattle.nodes.proofs.run_from.Tie as tie
 
--- where the numbers are filled
+-- the start, and where the numbers are filled, each from a later stop
+abbrev lent : tie.After-fill-numbers-arg2 → tie.Start
+lent c = c .before .before .before .before .before
+
+abbrev filled : tie.After-run-arg2 → tie.After-fill-numbers
+filled c = c .before .before .before .before
+
 module _ (c : tie.After-fill-numbers) where
   abbrev start : tie.Start
-  start = c .before .before .before .before .before .before
+  start = lent (c .before)
 
   -- the marks of the operands
   abbrev p : ℕ → Bool
@@ -37,29 +43,29 @@ module _ (c : tie.After-fill-numbers) where
 
 fill-numbers-requires : tie.Need-fill-numbers-requires
 fill-numbers-requires c κs =
-    let p = c .before .before .before .before .before .pre in
+    let p = lent c .pre in
     (rows-inside _ (p .1) (p .0 .size) (p .0 .table), p .2 .low)
 
 run-requires : tie.Need-run-requires
 run-requires c κs =
-    let filled = c .before .before .before .before in
-    let p = start filled .pre in (
-      record { passed = p .0 .passed; table = p .0 .table; size = filled .fill-numbers .ensures .size },
-      record { fits = p .2 .fits; go = go filled; ready = begun filled .ready },
+    let f = filled c in
+    let p = start f .pre in (
+      record { passed = p .0 .passed; table = p .0 .table; size = f .fill-numbers .ensures .size },
+      record { fits = p .2 .fits; go = go f; ready = begun f .ready },
     )
 
 returns : tie.Need-returns
 returns c =
     let ran = c .before .before .before .before in
-    let filled = ran .before .before .before .before .before in
-    let a = start filled .args in (
+    let f = filled (ran .before) in
+    let a = start f .args in (
       ran .run .ensures .0,
       record {
         size = search needs;
         is =
-            ran .run .ensures .1 (go filled) (begun filled .ready) .is ∙
-            ap (λ vs. settled (a .way) (now (a .chart)) (a .n) (go filled) (minutesOf (a .way) vs))
-            (begun filled .starts);
+            ran .run .ensures .1 (go f) (begun f .ready) .is ∙
+            ap (λ vs. settled (a .way) (now (a .chart)) (a .n) (go f) (minutesOf (a .way) vs))
+            (begun f .starts);
       },
     )
 
