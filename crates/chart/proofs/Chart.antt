@@ -4,7 +4,7 @@ use mathlib.Core.List.{List, List·Memᴰ}
 use Prim.Native.Nat.{ℕ, _<_}
 use lib.ListN.{getD}
 use Rattle.tctl.specs.Chart.{Arrow, states}
-use Rattle.tctl.proofs.Tabulate.{length-tabulate, getD-tabulate, mem-tabulate, tabulate-mem}
+use Rattle.base.proofs.Tabulate.{length-tabulate, getD-tabulate, mem-tabulate, tabulate-mem}
 use Rattle.chart.specs.Bytes.{stateCount, arrowCount, labelWord, arrowWords, arrowOf, chartOf}
 
 module _ (s : List ℕ) where

@@ -16,7 +16,7 @@ use Rattle.masks.proofs.Member.{member-none}
 use Rattle.outcome.specs.Refusal.{found, orElse, lowest}
 use Rattle.chart.specs.Bytes.{arrowWords}
 use Rattle.chart.specs.Refusals.{leftBy}
-use Rattle.chart.specs.Parts.{Leaves}
+use Rattle.chart.specs.Rows.{Leaves}
 
 found-or : (o : Option ℕ) (b : Bool) (i : ℕ) → found (orElse o b i) ≡ (b || found o)
 found-or (some j) true i = refl

@@ -1,7 +1,7 @@
 -- What a word that is not 0 says of the most minutes.
 use mathlib.Core.Path.{_≡_, refl}
 use Prim.Native.Nat.{ℕ, zero, suc}
-use Rattle.truth.proofs.Truth.{cond-elim}
+use Rattle.base.proofs.Truth.{cond-elim}
 use Rattle.tctl.specs.Chart.{Most, upTo, noEnd}
 use Rattle.chart.specs.Bytes.{isNoEnd, mostOf}
 

@@ -8,7 +8,7 @@ use native.Mathlib.Omega.{arith}
 use lib.ListN.{length, drop}
 use lib.Dec.{leb, eqb}
 use borrow.Author.Tests.{leb-false}
-use Rattle.truth.proofs.Truth.{or-false}
+use Rattle.base.proofs.Truth.{or-false}
 use Rattle.outcome.specs.declared.Outcome.{Outcome}
 use Rattle.outcome.specs.Refusal.{whole, outside, lowest, first, rows}
 use Rattle.outcome.proofs.Whole.{whole-none, none-equal, inside}
@@ -17,7 +17,7 @@ use Rattle.outcome.proofs.Lowest.{none-below}
 use Rattle.chart.specs.Bytes.{stateCount, arrowCount, chartLength, arrowWords}
 use Rattle.chart.specs.Shape.{Shape}
 use Rattle.chart.specs.Refusals.{chartTable, namesNoState}
-use Rattle.chart.specs.Parts.{bodyRows}
+use Rattle.chart.specs.Rows.{bodyRows}
 
 module _ (s : List ℕ) where
   module _ {n m : ℕ} (en : n ≡ stateCount s) (em : m ≡ arrowCount s) where

@@ -6,7 +6,7 @@ use native.Mathlib.Omega.{arith}
 use lib.ListN.{length}
 use lib.Dec.{ltb}
 use borrow.Author.Tests.{eqb-false}
-use Rattle.truth.proofs.Truth.{or-false}
+use Rattle.base.proofs.Truth.{or-false}
 use Rattle.tctl.specs.Chart.{states}
 use Rattle.tctl.proofs.Drawn.{Drawn}
 use Rattle.chart.specs.Bytes.{arrowWords, chartOf}

@@ -7,7 +7,7 @@ use native.Mathlib.Omega.{arith}
 use lib.ListN.{drop}
 use lib.Dec.{ltb, eqb}
 use borrow.Author.Tests.{ltb-false, eqb-true, not-false}
-use Rattle.truth.proofs.Truth.{or-false}
+use Rattle.base.proofs.Truth.{or-false}
 use Rattle.tctl.specs.Chart.{Arrow, upTo, noEnd, Within, states}
 use Rattle.outcome.specs.Refusal.{lowest}
 use Rattle.outcome.proofs.Found.{found-some}

@@ -4,7 +4,7 @@ use mathlib.Core.List.{List}
 use Prim.Native.Nat.{ℕ, _+_, _*_}
 use lib.Dec.{eqb}
 use Rattle.words.specs.Word.{word}
-use Rattle.tctl.specs.Tabulate.{tabulate}
+use Rattle.base.specs.Tabulate.{tabulate}
 use Rattle.tctl.specs.Chart.{Chart, Arrow, Most, upTo, noEnd}
 use Rattle.chart.specs.declared.ArrowWords.{ArrowWords}
 

@@ -1,4 +1,4 @@
 pub mod Bytes
 pub mod Shape
 pub mod Refusals
-pub mod Parts
+pub mod Rows

@@ -7,7 +7,7 @@ ghost use Rattle.outcome.specs.Refusal.{first, rows};
 ghost use Rattle.chart.specs.Bytes.{arrowWords};
 ghost use Rattle.chart.specs.Shape.{Shape};
 ghost use Rattle.chart.specs.Refusals.{chartTable, chartRefusal, namesNoState, emptySlot};
-ghost use Rattle.chart.specs.Parts.{slotRow, arrowRows, stateRow, bodyRows, Leaves};
+ghost use Rattle.chart.specs.Rows.{slotRow, arrowRows, stateRow, bodyRows, Leaves};
 use crate::ArrowWords;
 use outcome::Outcome;
 

@@ -7,7 +7,7 @@ use lib.Dec.{eqb}
 use Rattle.outcome.specs.declared.Outcome.{Outcome}
 use Rattle.chart.specs.Bytes.{stateCount}
 use Rattle.rule.specs.Bytes.{nodeCount}
-use Rattle.checker.specs.Check.{checkRefusal, marksOf}
+use Rattle.call_check.specs.Check.{checkRefusal, marksOf}
 use Rattle.listing.specs.Text.{listing, refusedLine}
 
 -- the marks table that is lent: 64 × 256 bytes, enough for any chart and rule
@@ -19,8 +19,8 @@ abbrev pub lentScratch : List ℕ
 lentScratch = replicate 1024 0
 
 -- the answer of the check
-abbrev pub verdict : List ℕ → List ℕ → Outcome
-verdict chart rule = checkRefusal chart rule lentMarks lentScratch
+abbrev pub answerOf : List ℕ → List ℕ → Outcome
+answerOf chart rule = checkRefusal chart rule lentMarks lentScratch
 
 -- the text of an answer: the listing of the marks, or the line of the refusal
 abbrev pub textOf : List ℕ → List ℕ → Outcome → List ℕ
@@ -31,4 +31,4 @@ textOf chart rule answer =
 
 -- what is printed
 unfoldable pub printed : List ℕ → List ℕ → List ℕ
-printed chart rule = textOf chart rule (verdict chart rule)
+printed chart rule = textOf chart rule (answerOf chart rule)

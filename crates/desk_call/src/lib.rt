@@ -39,9 +39,9 @@ fn report(chart: &[u8], rule: &[u8], out: &mut [u8]) -> usize
 {
     let mut marks = [0; MARKS];
     let mut scratch = [0; SCRATCH];
-    let verdict = checker::check(chart, rule, &mut marks, &mut scratch);
-    if verdict.number != 0 {
-        return listing::refuse(verdict.number, verdict.place, out);
+    let answer = call_check::check(chart, rule, &mut marks, &mut scratch);
+    if answer.number != 0 {
+        return listing::refuse(answer.number, answer.place, out);
     }
     let n = chart::state_count(chart);
     let k = rule::node_count(rule);

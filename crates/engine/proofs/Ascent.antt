@@ -2,14 +2,12 @@
 use mathlib.Core.Path.{_≡_, refl, sym, ap, subst, subst₂, _∙_}
 use mathlib.Core.Bool.{Bool, true, false}
 use mathlib.Core.List.{List, map, List·Memᴰ, Memᴰ·map, Memᴰ·of-map}
-use Prim.Native.Nat.{ℕ, zero, suc, _+_, _≤_, _<_}
+use Prim.Native.Nat.{ℕ, zero, suc, _≤_, _<_}
 use native.Mathlib.Omega.{arith}
 use lib.ListN.{length, set}
-use Rattle.truth.proofs.Truth.{Yes}
-use Rattle.tctl.specs.Chart.{Chart, Arrow, Most, states}
-use Rattle.tctl.specs.Tabulate.{tabulate}
+use Rattle.tctl.specs.Chart.{Arrow, Most, states}
+use Rattle.base.specs.Tabulate.{tabulate}
 use Rattle.tctl.proofs.Drawn.{Drawn}
-use Rattle.tctl.proofs.Path.{Path, stop, step, minutes}
 use Rattle.model.specs.Engine.{num, rounds, offer, raise, greatest, raised}
 use Rattle.model.specs.Weighed.{weight, weighing, weighed, weighedChart}
 use Rattle.model.proofs.Numbers.{tabulate-num}
@@ -22,18 +20,10 @@ use Rattle.chart.specs.Bytes.{chartOf}
 use Rattle.chart.specs.Shape.{Passed}
 use Rattle.chart.proofs.Chart.{arrow-mem, arrow-of}
 use Rattle.chart.proofs.Reading.{has-states, drawn}
-use Rattle.hints.specs.Circle.{Leads, here, next}
-use Rattle.visits.specs.declared.Climb.{Climb}
-use Rattle.visits.specs.declared.Way.the-variants.{Raise}
-use Rattle.visits.specs.Way.{ceilingOf, leapsOf, gain, offerOf, reachedOf}
+use Rattle.ways.specs.declared.Climb.{Climb}
+use Rattle.ways.specs.declared.Way.the-variants.{Raise}
+use Rattle.ways.specs.Way.{ceilingOf, leapsOf, gain, offerOf, reachedOf}
 use Rattle.visits.specs.Moves.{arrowAt, Held, Moved, none, more, leap}
-
--- steps through go are a path
-led-path :
-    {G : Chart} {go : ℕ → Bool} {s t k : ℕ} → Leads G go t s k →
-    (p : Path G (Yes go) (λ x. x ≡ t) s) × (minutes p ≡ k)
-led-path here = (stop refl, refl)
-led-path (next {d = d} y x w) = let p = led-path w in (step y x (p .0), ap (λ k. d + k) (p .1))
 
 -- what is offered, is offered from a number above 0
 gains : (cap : ℕ) (most : Most) (v : ℕ) {u : ℕ} → u < gain cap most v → 1 ≤ v
@@ -103,8 +93,7 @@ module _
       same = offers-all cap (weight ticks (a .most)) (num us (a .end)) some
   rises-moved {k} late f (leap {vs = us} t r l i h c) =
       let g = rises-moved late f t in
-      let w = led-path (c ticks .2) in
-      rising-loop heavy go cap (num old) g r (omega (arith, g .size)) i h (w .0) (omega (arith, w .1, c ticks .1))
+      rising-loop heavy go cap (num old) g r (omega (arith, g .size)) i h (c ticks .0) (c ticks .1)
 
   offered :
       {vs new : List ℕ} → ((i : ℕ) → i < m → Held (Raise climb) go (arrowAt chart i) vs new) →

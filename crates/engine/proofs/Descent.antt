@@ -6,7 +6,7 @@ use Prim.Native.Nat.{ℕ, _+_, _-_, _≤_, _<_}
 use native.Mathlib.Omega.{arith}
 use lib.ListN.{length, set, length-map}
 use Rattle.tctl.specs.Chart.{Arrow, states}
-use Rattle.tctl.specs.Tabulate.{tabulate}
+use Rattle.base.specs.Tabulate.{tabulate}
 use Rattle.model.specs.Engine.{num, lowered}
 use Rattle.model.proofs.Numbers.{tabulate-num, set-elim}
 use Rattle.model.proofs.Lower.{Lowered}
@@ -17,8 +17,8 @@ use Rattle.chart.specs.Shape.{Passed}
 use Rattle.chart.proofs.Chart.{arrow-mem, arrow-of}
 use Rattle.chart.proofs.Reading.{has-states, drawn, arrow-ends}
 use Rattle.hints.proofs.Values.{map-set, num-map}
-use Rattle.visits.specs.declared.Way.the-variants.{Lower}
-use Rattle.visits.specs.Way.{top, leftOver, leapsOf, offerOf, reachedOf}
+use Rattle.ways.specs.declared.Way.the-variants.{Lower}
+use Rattle.ways.specs.Way.{top, leftOver, leapsOf, offerOf, reachedOf}
 use Rattle.visits.specs.Moves.{arrowAt, offerAt, Held, Moved, none, more, leap}
 
 -- the minutes fell as the model's do, and no number is above the top

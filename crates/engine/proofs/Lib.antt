@@ -1,6 +1,3 @@
-pub mod Swept
-pub mod Remarked
-pub mod Runs
 pub mod Descent
 pub mod Ascent
 pub mod OnTheWay

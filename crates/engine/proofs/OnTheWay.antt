@@ -14,13 +14,16 @@ use Rattle.model.specs.Weighed.{weighedChart}
 use Rattle.model.proofs.Rising.{Rising}
 use Rattle.hints.specs.Values.{values}
 use Rattle.hints.proofs.Values.{value-at, values-length}
-use Rattle.visits.specs.declared.Way.{Way}
-use Rattle.visits.specs.declared.Way.the-variants.{Lower, Raise}
-use Rattle.visits.specs.Way.{ceilingOf, Fits, offerOf}
+use Rattle.ways.specs.declared.Way.{Way}
+use Rattle.ways.specs.declared.Way.the-variants.{Lower, Raise}
+use Rattle.ways.specs.Way.{ceilingOf, Fits, offerOf}
 use Rattle.visits.specs.Moves.{Ready, arrowAt, Held, Moved, left, Went}
 use Rattle.visits.proofs.Went.{went-left, went-held}
-use Rattle.engine.specs.Parts.{hurriedOf, AsModel, Still, AtRest, Sweep, Sweeps, Runs}
-use Rattle.engine.specs.declared.Tally.{Tally}
+use Rattle.engine.specs.Rest.{hurriedOf, AtRest}
+use Rattle.engine.specs.AsModel.{AsModel}
+use Rattle.sweeps.specs.Sweep.{Still, Sweep, Sweeps}
+use Rattle.walks.specs.Walk.{Runs}
+use Rattle.sweeps.specs.declared.Tally.{Tally}
 use Rattle.engine.proofs.Descent.{Falls, falls-none, falls-moved, falls-all}
 use Rattle.engine.proofs.Ascent.{rises-none, rises-less, rises-moved, rises-swept, rises-all}
 

@@ -8,11 +8,11 @@ use lib.ListN.{length}
 use Rattle.model.specs.Engine.{num}
 use Rattle.hints.specs.Values.{radix, testedOf}
 use Rattle.hints.proofs.Values.{value-at}
-use Rattle.visits.specs.declared.Way.{Way}
-use Rattle.visits.specs.declared.Way.the-variants.{Lower}
-use Rattle.visits.specs.Way.{offerOf}
+use Rattle.ways.specs.declared.Way.{Way}
+use Rattle.ways.specs.declared.Way.the-variants.{Lower}
+use Rattle.ways.specs.Way.{offerOf}
 use Rattle.visits.proofs.Tested.{sided-held}
-use Rattle.engine.specs.Parts.{AtRest}
+use Rattle.engine.specs.Rest.{AtRest}
 
 pub sided-rest :
     {r : Bool} {way : Way} {ns : List ℕ} → ((s : ℕ) → s < length ns → radix ≤ testedOf (num ns s)) → AtRest r way ns

@@ -2,7 +2,7 @@
 use mathlib.Core.Path.{_≡_, sym, ap, subst, _∙_}
 use mathlib.Core.Bool.{Bool, cond}
 use Prim.Native.Nat.{ℕ, _≤_}
-use Rattle.truth.proofs.Truth.{cond-elim}
+use Rattle.base.proofs.Truth.{cond-elim}
 use Rattle.fill.specs.Fill.{Chosen, Placed, placedOf}
 
 -- a choice of two is up to what both are up to

@@ -10,22 +10,22 @@ use lib.Dec.{eqb}
 use lib.ListN.{length, getD, set, length-set}
 use lib.Seq.{getD-set-same, getD-set-other}
 use borrow.Author.Tests.{eq-eqb, ne-eqb}
-use Rattle.truth.proofs.Truth.{true-or-false, or-false}
+use Rattle.base.proofs.Truth.{true-or-false, or-false}
 use Rattle.tctl.specs.Chart.{Arrow}
-use Rattle.tctl.specs.Tabulate.{tabulate}
-use Rattle.model.specs.Every.{every}
+use Rattle.base.specs.Tabulate.{tabulate}
+use Rattle.base.specs.Every.{every}
 use Rattle.model.specs.Engine.{num}
 use Rattle.model.specs.Decide.{leadsTo}
 use Rattle.model.specs.Marks.{flag}
-use Rattle.model.proofs.Every.{every-false}
+use Rattle.base.proofs.Every.{every-false}
 use Rattle.chart.specs.declared.ArrowWords.{ArrowWords}
 use Rattle.chart.specs.Bytes.{arrowCount, arrowWords, arrowOf, chartOf}
 use Rattle.chart.specs.Shape.{Passed}
 use Rattle.chart.proofs.Reading.{drawn, has-states}
 use Rattle.hints.specs.Values.{testedOf}
-use Rattle.visits.specs.Way.{top, beside}
+use Rattle.ways.specs.Way.{top, beside}
 use Rattle.fill.specs.Fill.{Chosen}
-use Rattle.fill.specs.Parts.{Sured}
+use Rattle.fill.specs.Written.{Sured}
 
 -- the first i arrows of a chart's bytes
 abbrev firstArrows : List ℕ → ℕ → List Arrow

@@ -4,20 +4,20 @@ use mathlib.Core.Bool.{Bool, true, false, _||_}
 use mathlib.Core.List.{List}
 use Prim.Native.Nat.{ℕ, _≤_, _<_}
 use native.Mathlib.Omega.{arith}
-use Rattle.tctl.specs.Tabulate.{tabulate}
-use Rattle.tctl.proofs.Tabulate.{tabulate-ext}
+use Rattle.base.specs.Tabulate.{tabulate}
+use Rattle.base.proofs.Tabulate.{tabulate-ext}
 use Rattle.model.specs.Engine.{num}
 use Rattle.model.proofs.Numbers.{tabulate-numbers}
 use Rattle.hints.specs.Values.{valueOf, testedOf, values}
 use Rattle.hints.proofs.Values.{value-at, values-length}
-use Rattle.visits.specs.declared.Way.{Way}
-use Rattle.visits.specs.Way.{highest, top, ceilingOf, sideOf, beside}
+use Rattle.ways.specs.declared.Way.{Way}
+use Rattle.ways.specs.Way.{highest, top, ceilingOf, sideOf, beside}
 use Rattle.visits.specs.Moves.{Ready}
-use Rattle.fill.specs.declared.Base.{Base}
-use Rattle.fill.specs.declared.Base.the-variants.{Reach, Goal, Fail, Stay}
-use Rattle.fill.specs.Fill.{capOf, startOf, goOf, limitOf, baseOf, placedOf}
-use Rattle.fill.specs.Parts.{Filled}
-use Rattle.visits.proofs.Reaching.{beside-value}
+use Rattle.fill.specs.declared.Initial.{Initial}
+use Rattle.fill.specs.declared.Initial.the-variants.{Reach, Goal, Fail, Stay}
+use Rattle.fill.specs.Fill.{capOf, startOf, goOf, limitOf, initialOf, placedOf}
+use Rattle.fill.specs.Written.{Filled}
+use Rattle.ways.proofs.Reaching.{beside-value}
 use Rattle.fill.proofs.Choice.{cond-le}
 
 -- numbers with the values v: through go they are ready
@@ -49,18 +49,18 @@ filled-begun way go v {n} {ns = ns} low is filled = record { ready = ready; star
               omega (arith, value-at ns s, ap (λ vs. num vs s) starts, tabulate-numbers n v low .capped s);
         }
 
--- no value of a base is above the top
-start-low : (base : Base) (p q : Bool) → capOf base ≤ highest → startOf base p q ≤ top
+-- no value of an initial is above the top
+start-low : (initial : Initial) (p q : Bool) → capOf initial ≤ highest → startOf initial p q ≤ top
 start-low (Reach cap) p q h = cond-le q (omega arith) (omega arith)
 start-low (Goal cap) p q h = cond-le q (omega arith) (omega arith)
 start-low (Fail cap) p q h = cond-le (p || q) (omega arith) (omega arith)
 start-low (Stay cap) p q h = cond-le p (omega arith) (omega arith)
 
-pub base-begun :
-    (base : Base) (p q : ℕ → Bool) (way : Way) {n : ℕ} {ns : List ℕ} → capOf base ≤ highest →
-    limitOf base ≡ ceilingOf way → Filled n (λ s. baseOf base (p s) (q s)) ns →
-    Begun way (λ s. goOf base (p s) (q s)) n (λ s. startOf base (p s) (q s)) ns
-base-begun base p q way low limit =
-    filled-begun way (λ s. goOf base (p s) (q s)) (λ s. startOf base (p s) (q s))
-    (λ s. start-low base (p s) (q s) low)
-    (λ s l. ap (placedOf (startOf base (p s) (q s)) (goOf base (p s) (q s))) limit)
+pub initial-begun :
+    (initial : Initial) (p q : ℕ → Bool) (way : Way) {n : ℕ} {ns : List ℕ} → capOf initial ≤ highest →
+    limitOf initial ≡ ceilingOf way → Filled n (λ s. initialOf initial (p s) (q s)) ns →
+    Begun way (λ s. goOf initial (p s) (q s)) n (λ s. startOf initial (p s) (q s)) ns
+initial-begun initial p q way low limit =
+    filled-begun way (λ s. goOf initial (p s) (q s)) (λ s. startOf initial (p s) (q s))
+    (λ s. start-low initial (p s) (q s) low)
+    (λ s l. ap (placedOf (startOf initial (p s) (q s)) (goOf initial (p s) (q s))) limit)

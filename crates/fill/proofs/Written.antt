@@ -12,7 +12,7 @@ use lib.Seq.{getD-set-same, getD-set-other}
 use borrow.Author.Count.{below-none, below-more}
 use Rattle.model.specs.Marks.{bit}
 use Rattle.model.proofs.Marks.{row-below}
-use Rattle.fill.specs.Parts.{Written}
+use Rattle.fill.specs.Written.{Written}
 
 -- what f reads of entries at places that differ is as g says, and of one more after it is set
 pub set-more :

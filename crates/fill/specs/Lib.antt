@@ -1,2 +1,2 @@
 pub mod Fill
-pub mod Parts
+pub mod Written

@@ -10,12 +10,12 @@ ghost use Rattle.model.specs.Marks.{mark};
 ghost use Rattle.chart.specs.Bytes.{labelWord};
 ghost use Rattle.chart.specs.Shape.{Passed};
 ghost use Rattle.hints.specs.Values.{valueOf};
-ghost use Rattle.visits.specs.Way.{highest, top};
-ghost use Rattle.fill.specs.Fill.{mixOf, capOf, baseOf, judged, Chosen, Placed, Based, oneOf, Foreseen};
-ghost use Rattle.fill.specs.Parts.{Wrote, Filled, Sured};
+ghost use Rattle.ways.specs.Way.{highest, top};
+ghost use Rattle.fill.specs.Fill.{combine, capOf, initialOf, passesLimit, Chosen, Placed, Initially, oneOf, Foreseen};
+ghost use Rattle.fill.specs.Written.{RowWritten, Filled, Sured};
 
 // A mark from the marks p and q of two operands.
-pub enum Mix {
+pub enum Connective {
     Yes,
     Not,
     And,
@@ -25,7 +25,7 @@ pub enum Mix {
 // What numbers start from, by p and q; minutes that fall are what they leave to the top.
 // Reach: 0 minutes at q, else the cap, through p. Goal: 1 at q, else 0, through p. Fail: 1 at p or q, else the cap,
 // through p where q does not hold. Stay: the cap of minutes at p, else 0, through every state.
-pub enum Base {
+pub enum Initial {
     Reach(u32),
     Goal(u32),
     Fail(u32),
@@ -33,14 +33,14 @@ pub enum Base {
 }
 
 // The mark from the marks p and q.
-fn mixed(mix: Mix, p: bool, q: bool) -> bool
-    ensures { λ r. ⌜ r ≡ mixOf mix p q ⌝ }
+fn combined(connective: Connective, p: bool, q: bool) -> bool
+    ensures { λ r. ⌜ r ≡ combine connective p q ⌝ }
 {
-    match mix {
-        Mix::Yes => true,
-        Mix::Not => !p,
-        Mix::And => p & q,
-        Mix::Or => p | q,
+    match connective {
+        Connective::Yes => true,
+        Connective::Not => !p,
+        Connective::And => p & q,
+        Connective::Or => p | q,
     }
 }
 
@@ -63,20 +63,20 @@ fn placed(v: u32, go: bool, limit: u32) -> u32
 }
 
 // The value and the side from the marks p and q.
-fn based(base: Base, p: bool, q: bool) -> u32
-    requires { ⌜ capOf base ≤ highest ⌝ }
-    ensures { λ r. ⌜ Based base p q r ⌝ }
+fn initial_of(initial: Initial, p: bool, q: bool) -> u32
+    requires { ⌜ capOf initial ≤ highest ⌝ }
+    ensures { λ r. ⌜ Initially initial p q r ⌝ }
 {
-    let t = visits::TOP;
-    match base {
-        Base::Reach(cap) => placed(either(q, t, t - cap), p, t),
-        Base::Goal(cap) => placed(either(q, 1, 0), p, cap),
-        Base::Fail(cap) => placed(either(p | q, 1, cap), p & !q, cap),
-        Base::Stay(cap) => placed(either(p, t - cap, t), true, t),
+    let t = ways::TOP;
+    match initial {
+        Initial::Reach(cap) => placed(either(q, t, t - cap), p, t),
+        Initial::Goal(cap) => placed(either(q, 1, 0), p, cap),
+        Initial::Fail(cap) => placed(either(p | q, 1, cap), p & !q, cap),
+        Initial::Stay(cap) => placed(either(p, t - cap, t), true, t),
     }
 }
 
-// What a base gives where neither mark holds, only the first, only the second, or both.
+// What an initial gives where neither mark holds, only the first, only the second, or both.
 struct Four {
     neither: u32,
     first: u32,
@@ -84,16 +84,16 @@ struct Four {
     both: u32,
 }
 
-// The four of a base, found once and not at each state.
-fn four_of(base: Base) -> Four
-    requires { ⌜ capOf base ≤ highest ⌝ }
-    ensures { λ r. ⌜ Foreseen base r ⌝ }
+// The four of an initial, found once and not at each state.
+fn four_of(initial: Initial) -> Four
+    requires { ⌜ capOf initial ≤ highest ⌝ }
+    ensures { λ r. ⌜ Foreseen initial r ⌝ }
 {
     Four {
-        neither: based(base, false, false),
-        first: based(base, true, false),
-        second: based(base, false, true),
-        both: based(base, true, true),
+        neither: initial_of(initial, false, false),
+        first: initial_of(initial, true, false),
+        second: initial_of(initial, false, true),
+        both: initial_of(initial, true, true),
     }
 }
 
@@ -109,8 +109,8 @@ fn one_of(four: Four, p: bool, q: bool) -> u32
 }
 
 // Whether v is above the limit, or up to it.
-fn verdict(above: bool, limit: u32, v: u32) -> bool
-    ensures { λ r. ⌜ r ≡ judged above limit v ⌝ }
+fn passes_limit(above: bool, limit: u32, v: u32) -> bool
+    ensures { λ r. ⌜ r ≡ passesLimit above limit v ⌝ }
 {
     if above {
         return limit < v;
@@ -119,9 +119,9 @@ fn verdict(above: bool, limit: u32, v: u32) -> bool
 }
 
 // Row t from the rows of a and b.
-pub fn fill(mix: Mix, n: usize, t: usize, a: usize, b: usize, marks: &mut [u8])
+pub fn fill(connective: Connective, n: usize, t: usize, a: usize, b: usize, marks: &mut [u8])
     requires { ⌜ (t * n + n ≤ length (now marks)) × (a ≤ t) × (b ≤ t) ⌝ }
-    ensures { λ _. ⌜ Wrote n t (λ s. mixOf mix (mark n (now (marks .entry)) a s) (mark n (now (marks .entry)) b s))
+    ensures { λ _. ⌜ RowWritten n t (λ s. combine connective (mark n (now (marks .entry)) a s) (mark n (now (marks .entry)) b s))
         (now (marks .entry)) (now (marks .exit)) ⌝ }
 {
     let at = t * n;
@@ -131,7 +131,7 @@ pub fn fill(mix: Mix, n: usize, t: usize, a: usize, b: usize, marks: &mut [u8])
     while s < n {
         let p = marks[left + s] == 1;
         let q = marks[right + s] == 1;
-        marks[at + s] = mixed(mix, p, q) as u8;
+        marks[at + s] = combined(connective, p, q) as u8;
         s += 1;
     }
 }
@@ -153,7 +153,7 @@ pub fn all_are(v: u8, row: &[u8]) -> bool
 // Row t from label i.
 pub fn fill_label(chart: &[u8], n: usize, i: usize, t: usize, marks: &mut [u8])
     requires { ⌜ (9 + 2 * n ≤ length (now chart)) × (i < 16) × (t * n + n ≤ length (now marks)) ⌝ }
-    ensures { λ _. ⌜ Wrote n t (λ s. eqb (labelWord (now (chart .entry)) s / 2 ^ i % 2) 1)
+    ensures { λ _. ⌜ RowWritten n t (λ s. eqb (labelWord (now (chart .entry)) s / 2 ^ i % 2) 1)
         (now (marks .entry)) (now (marks .exit)) ⌝ }
 {
     let at = t * n;
@@ -166,29 +166,36 @@ pub fn fill_label(chart: &[u8], n: usize, i: usize, t: usize, marks: &mut [u8])
 }
 
 // Row t from the values of numbers: those above a limit, or those up to it.
-pub fn judge(above: bool, limit: u32, n: usize, t: usize, numbers: &[u32], marks: &mut [u8])
+pub fn fill_limit(above: bool, limit: u32, n: usize, t: usize, numbers: &[u32], marks: &mut [u8])
     requires { ⌜ (length (now numbers) ≡ n) × (t * n + n ≤ length (now marks)) ⌝ }
-    ensures { λ _. ⌜ Wrote n t (λ s. judged above limit (valueOf (num (now (numbers .entry)) s)))
+    ensures { λ _. ⌜ RowWritten n t (λ s. passesLimit above limit (valueOf (num (now (numbers .entry)) s)))
         (now (marks .entry)) (now (marks .exit)) ⌝ }
 {
     let at = t * n;
     let mut s = 0;
     while s < n {
-        marks[at + s] = verdict(above, limit, hints::value(numbers[s])) as u8;
+        marks[at + s] = passes_limit(above, limit, hints::value(numbers[s])) as u8;
         s += 1;
     }
 }
 
 // Numbers from the rows of a and b.
-pub fn fill_numbers(base: Base, n: usize, a: usize, b: usize, marks: &[u8], numbers: &mut [u32])
+pub fn fill_numbers(
+    initial: Initial,
+    n: usize,
+    a: usize,
+    b: usize,
+    marks: &[u8],
+    numbers: &mut [u32],
+)
     requires { ⌜ (length (now numbers) ≡ n) × (a * n + n ≤ length (now marks)) × (b * n + n ≤ length (now marks)) ⌝ }
-    requires { ⌜ capOf base ≤ highest ⌝ }
+    requires { ⌜ capOf initial ≤ highest ⌝ }
     ensures { λ _. ⌜ Filled n
-        (λ s. baseOf base (mark n (now (marks .entry)) a s) (mark n (now (marks .entry)) b s)) (now (numbers .exit)) ⌝ }
+        (λ s. initialOf initial (mark n (now (marks .entry)) a s) (mark n (now (marks .entry)) b s)) (now (numbers .exit)) ⌝ }
 {
     let left = a * n;
     let right = b * n;
-    let four = four_of(base);
+    let four = four_of(initial);
     let mut s = 0;
     while s < n {
         let p = marks[left + s] == 1;
@@ -210,7 +217,7 @@ fn clear_each(chart: &[u8], n: usize, m: usize, good: &[u8], numbers: &mut [u32]
         let start = a.start;
         let end = a.end;
         let x = numbers[start];
-        let full = hints::retested(x, visits::TOP + hints::RADIX);
+        let full = hints::retested(x, ways::TOP + hints::RADIX);
         numbers[start] = either(good[end] == 1, x, full);
         i += 1;
     }

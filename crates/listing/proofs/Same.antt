@@ -5,7 +5,7 @@ use Prim.Native.Nat.{ℕ, _+_, _*_, _<_}
 use native.Mathlib.Omega.{arith}
 use lib.ListN.{getD}
 use Rattle.listing.specs.Text.{statesWord, nodesWord, space, newline, decimal}
-use Rattle.listing.specs.Text.{mark, markLine, nodeLine, twoNumbers, listing}
+use Rattle.listing.specs.Text.{markDigit, markLine, nodeLine, twoNumbers, listing}
 use Rattle.listing.proofs.Joined.{joined-same}
 use Rattle.listing.proofs.Rows.{row-inside}
 
@@ -15,7 +15,7 @@ module _ (n k : ℕ) (a b : List ℕ) (same : (i : ℕ) → i < k * n → getD a
   node-same t l =
       let inside = row-inside t k n {size = k * n} l (omega arith) in
       ap (λ (s : List ℕ). decimal t ++ space ++ s ++ newline)
-      (joined-same n _ _ (λ s h. ap (λ (x : ℕ). mark x ∷ []) (same (t * n + s) (omega arith))))
+      (joined-same n _ _ (λ s h. ap (λ (x : ℕ). markDigit x ∷ []) (same (t * n + s) (omega arith))))
 
   pub listing-same : listing n k a ≡ listing n k b
   unfolding listing

@@ -4,7 +4,7 @@ use Prim.Native.Nat.{ℕ, suc, _+_, _*_, _^_, _≤_, _<_}
 use native.Mathlib.Omega.{arith}
 use lib.ListN.{length, getD, length-append}
 use Rattle.listing.specs.Text.{statesWord, nodesWord, refusedWord, atWord, space, newline}
-use Rattle.listing.specs.Text.{decimal, joined, mark, markLine, nodeLine, twoNumbers, listing, refusedLine}
+use Rattle.listing.specs.Text.{decimal, joined, markDigit, markLine, nodeLine, twoNumbers, listing, refusedLine}
 use Rattle.listing.specs.Piece.{Room}
 use Rattle.listing.proofs.Joined.{joined-size}
 use Rattle.listing.proofs.Decimal.{decimal-size}
@@ -12,7 +12,7 @@ use Rattle.listing.proofs.Decimal.{decimal-size}
 mark-size : (n start : ℕ) (marks : List ℕ) → length (markLine n marks start) ≤ n
 unfolding markLine
 mark-size n start marks =
-    omega (arith, joined-size n 1 (λ s. mark (getD marks (start + s) 0) ∷ []) (λ s l. omega arith))
+    omega (arith, joined-size n 1 (λ s. markDigit (getD marks (start + s) 0) ∷ []) (λ s l. omega arith))
 
 node-size : (n t : ℕ) (marks : List ℕ) → n ≤ 256 → t < 100 → length (nodeLine n marks t) ≤ 260
 unfolding nodeLine

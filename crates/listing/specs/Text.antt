@@ -45,12 +45,12 @@ joined zero f = []
 joined (suc k) f = joined k f ++ f k
 
 -- a mark: 1 for a byte that is 1, else 0
-abbrev pub mark : ℕ → ℕ
-mark byte = cond (eqb byte 1) 49 48
+abbrev pub markDigit : ℕ → ℕ
+markDigit byte = cond (eqb byte 1) 49 48
 
 -- n marks, those of the bytes from `start` on
 unfoldable pub markLine : ℕ → List ℕ → ℕ → List ℕ
-markLine n marks start = joined n (λ s. mark (getD marks (start + s) 0) ∷ [])
+markLine n marks start = joined n (λ s. markDigit (getD marks (start + s) 0) ∷ [])
 
 -- "a line per node: its number, a space, n marks"
 unfoldable pub nodeLine : ℕ → List ℕ → ℕ → List ℕ

@@ -5,7 +5,7 @@ ghost use Prim.Native.Nat.{_+_, _*_, _%_, _≤_};
 ghost use lib.ListN.{length};
 ghost use Rattle.listing.specs.Text.{decimal, joined, markLine, nodeLine, twoNumbers};
 ghost use Rattle.listing.specs.Text.{listing, refusedLine, Shown};
-ghost use Rattle.listing.specs.Text.{mark as Text·mark};
+ghost use Rattle.listing.specs.Text.{markDigit};
 ghost use Rattle.listing.specs.Piece.{Room, Appended};
 
 fn put(byte: u8, at: usize, out: &mut [u8]) -> usize
@@ -47,8 +47,8 @@ fn put_number(x: usize, at: usize, out: &mut [u8]) -> usize
     put(digit(x), end, out)
 }
 
-fn mark(byte: u8) -> u8
-    ensures { λ r. ⌜ r ≡ Text·mark byte ⌝ }
+fn mark_digit(byte: u8) -> u8
+    ensures { λ r. ⌜ r ≡ markDigit byte ⌝ }
 {
     if byte == 1 {
         return b'1';
@@ -63,7 +63,7 @@ fn put_marks(marks: &[u8], start: usize, n: usize, at: usize, out: &mut [u8]) ->
     let mut end = at;
     let mut s = 0;
     while s < n {
-        end = put(mark(marks[start + s]), end, out);
+        end = put(mark_digit(marks[start + s]), end, out);
         s += 1;
     }
     end

@@ -6,7 +6,7 @@ use mathlib.Core.List.{List, [], _∷_}
 use mathlib.Core.Option.{none}
 use Prim.Native.Nat.{ℕ, _<_}
 use native.Mathlib.Omega.{arith}
-use Rattle.truth.proofs.Truth.{no-test}
+use Rattle.base.proofs.Truth.{no-test}
 use Rattle.tctl.specs.Run.{Run}
 use Rattle.tctl.specs.Accepted.{Accepted, OnZeroLoop}
 use Rattle.tctl.proofs.Drawn.{Drawn}

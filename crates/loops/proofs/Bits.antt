@@ -8,7 +8,7 @@ use native.Mathlib.Decide.{ℕ-discrete}
 use lib.Dec.{leb, ltb}
 use lib.Bits.{bitOr}
 use borrow.Author.Tests.{ltb-true, ltb-false, leb-true, leb-false}
-use Rattle.truth.proofs.Truth.{cond-elim}
+use Rattle.base.proofs.Truth.{cond-elim}
 use Rattle.masks.proofs.Bits.{Has, has-zero, or-bit, has-power}
 use Rattle.loops.specs.Climb.{ownBit}
 

@@ -16,7 +16,7 @@ use Rattle.chart.proofs.Chart.{arrow-mem, arrow-of}
 use Rattle.chart.proofs.Reading.{arrow-ends}
 use Rattle.loops.specs.declared.Search.{Search}
 use Rattle.loops.specs.Climb.{Raises, limit, Climbs, same, more, Quiet, room}
-use Rattle.loops.specs.Parts.{liftAt, RestsAt, Raised, Climbed}
+use Rattle.loops.specs.Climbed.{liftAt, RestsAt, Raised, Climbed}
 use Rattle.loops.proofs.Climb.{lift-limit, climb-trans, room-set}
 
 -- what is true of i is true from i on, below i + 1

@@ -5,7 +5,7 @@ use mathlib.Core.Bool.{true, false}
 use mathlib.Core.List.{List}
 use Prim.Native.Nat.{ℕ, _+_, _-_, _/_, _%_, _^_, _≤_, _<_}
 use native.Mathlib.Omega.{arith}
-use Rattle.truth.proofs.Truth.{no-test}
+use Rattle.base.proofs.Truth.{no-test}
 use Rattle.tctl.specs.Chart.{states}
 use Rattle.tctl.specs.Accepted.{OnZeroLoop}
 use Rattle.model.specs.Engine.{num}
@@ -17,7 +17,7 @@ use Rattle.chart.specs.Bytes.{chartOf}
 use Rattle.chart.specs.Shape.{Passed}
 use Rattle.chart.proofs.Reading.{has-states, drawn}
 use Rattle.loops.specs.declared.Search.the-variants.{Ranks, Batch}
-use Rattle.loops.specs.Parts.{AtRest}
+use Rattle.loops.specs.Climbed.{FullyClimbed}
 use Rattle.masks.proofs.Bits.{Has}
 use Rattle.loops.proofs.Climb.{climb-numbers}
 use Rattle.loops.proofs.Cleared.{cleared-numbers}
@@ -26,7 +26,7 @@ use Rattle.loops.proofs.Loops.{batch-iff, some-loop, no-loop}
 module _ (s : List ℕ) {ws : List ℕ} where
   -- ── The states of a batch ──
 
-  module _ {base : ℕ} (x : AtRest (chartOf s) (Batch base) ws) (g : ℕ) (from : base ≤ g) (few : g < base + 32) where
+  module _ {base : ℕ} (x : FullyClimbed (chartOf s) (Batch base) ws) (g : ℕ) (from : base ≤ g) (few : g < base + 32) where
     own-iff : (num ws g / 2 ^ (g - base) % 2 ≡ 1) ↔ OnZeroLoop (chartOf s) g
     own-iff =
         let iff = batch-iff base (x .zeros) (x .climbs) (x .quiet) (g - base) (omega arith) in
@@ -40,9 +40,9 @@ module _ (s : List ℕ) {ws : List ℕ} where
 
   -- ── Whether there is a loop ──
 
-  module _ {n m : ℕ} (p : Passed s n m) (x : AtRest (chartOf s) (Ranks n) ws) where
-    ranked : AtRest (chartOf s) (Ranks (states (chartOf s))) ws
-    ranked = subst (λ k. AtRest (chartOf s) (Ranks k) ws) (sym (has-states p)) x
+  module _ {n m : ℕ} (p : Passed s n m) (x : FullyClimbed (chartOf s) (Ranks n) ws) where
+    ranked : FullyClimbed (chartOf s) (Ranks (states (chartOf s))) ws
+    ranked = subst (λ k. FullyClimbed (chartOf s) (Ranks k) ws) (sym (has-states p)) x
 
     pub loop-found : (t : ℕ) → t < n → num ws t ≡ n → true ≡ found (lowest (onZeroLoop (chartOf s)) n)
     loop-found t l e =

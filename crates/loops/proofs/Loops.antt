@@ -6,11 +6,12 @@ use Prim.Native.Nat.{ℕ, _+_, _≤_, _<_}
 use native.Mathlib.Omega.{arith}
 use lib.Bits.{bitOr}
 use Rattle.tctl.specs.Chart.{Chart, Arrow, states}
-use Rattle.tctl.specs.Accepted.{Instant, last, next, OnZeroLoop}
+use Rattle.tctl.specs.Accepted.{Instant, OnZeroLoop}
 use Rattle.tctl.proofs.Drawn.{Drawn, quickest}
-use Rattle.tctl.proofs.Path.{Path, stop, step, steps, minutes, Any, step-cast}
+use Rattle.tctl.specs.Path.{Path, stop, step, steps, minutes, Any}
+use Rattle.tctl.proofs.Path.{step-cast}
 use Rattle.tctl.proofs.Loop.{looped}
-use Rattle.tctl.proofs.Instant.{instant}
+use Rattle.tctl.proofs.Instant.{instant, last, next, instant-elim}
 use Rattle.masks.proofs.Bits.{Has, has-zero}
 use Rattle.model.specs.Engine.{num}
 use Rattle.model.proofs.Numbers.{set-elim}
@@ -58,8 +59,9 @@ module _ {G : Chart} (base : ℕ) {old : List ℕ} (zeros : (s : ℕ) → num ol
 
     -- by induction on the chain, arrow by arrow
     chain-bit : (j : ℕ) → j < 32 → {s : ℕ} → Instant G (base + j) s → Has (num vs s) j
-    chain-bit j l (last a m e z f) = start-bit j l a m e z (inr f)
-    chain-bit j l (next a m e z c) = start-bit j l a m e z (inl (chain-bit j l c))
+    chain-bit j l =
+        instant-elim (λ s. Has (num vs s) j) (λ a m z f. start-bit j l a m refl z (inr f))
+        (λ a m z h. start-bit j l a m refl z (inl h))
 
     -- a loop is a chain from base + j to itself, and a state has bit j just where it has a chain to base + j
     pub batch-iff : (j : ℕ) → j < 32 → Has (num vs (base + j)) j ↔ OnZeroLoop G (base + j)
@@ -72,8 +74,8 @@ abbrev Walk : Chart → ℕ → ℕ → Type 0
 Walk G s x = s < states G → (p : Path G Any Any s) × (x ≤ steps p) × (minutes p ≡ 0)
 
 pub chain-below : {G : Chart} → Drawn G → {s t : ℕ} → Instant G t s → s < states G
-chain-below dr (last a m e z f) = omega (arith, dr .starts a m)
-chain-below dr (next a m e z c) = omega (arith, dr .starts a m)
+chain-below {G} dr =
+    instant-elim (λ s. s < states G) (λ a m z f. dr .starts a m) (λ a m z h. dr .starts a m)
 
 module _ {G : Chart} (dr : Drawn G) {old : List ℕ} (zeros : (s : ℕ) → num old s ≡ 0) where
   -- By induction on the raises: the path takes the arrow that raises s, and goes on from its end.
@@ -105,8 +107,10 @@ module _ {G : Chart} (dr : Drawn G) {old : List ℕ} (zeros : (s : ℕ) → num 
       falls a m z = omega (arith, quiet a m z, low (a .start) (dr .starts a m))
 
       chain-falls : {s t : ℕ} → Instant G t s → num vs t < num vs s
-      chain-falls (last a m e z f) = omega (arith, falls a m z, ap (num vs) e, ap (num vs) f)
-      chain-falls (next a m e z c) = omega (arith, falls a m z, chain-falls c, ap (num vs) e)
+      chain-falls {t = t} =
+          instant-elim (λ s. num vs t < num vs s)
+          (λ a m z f. omega (arith, falls a m z, ap (num vs) f))
+          (λ a m z h. omega (arith, falls a m z, h))
 
       -- along a loop the number would fall below itself
       pub no-loop : (t : ℕ) → OnZeroLoop G t → ⊥

@@ -6,7 +6,7 @@ use native.Mathlib.Omega.{arith}
 use lib.ListN.{set}
 use Rattle.model.specs.Engine.{num}
 use Rattle.loops.specs.declared.Search.{Search}
-use Rattle.loops.specs.Parts.{liftAt, Raised}
+use Rattle.loops.specs.Climbed.{liftAt, Raised}
 use Rattle.loops.proofs.Climb.{lift-up}
 
 module _ (search : Search) (s e : ℕ) (old : List ℕ) {w : ℕ} (is : w ≡ liftAt search s e old) where

@@ -1,4 +1,4 @@
 pub mod Refusal
 pub mod Accepted
 pub mod Climb
-pub mod Parts
+pub mod Climbed

@@ -11,7 +11,7 @@ ghost use Rattle.chart.specs.Bytes.{chartOf};
 ghost use Rattle.loops.specs.Refusal.{loopRow, acceptedRefusal};
 ghost use Rattle.loops.specs.Climb.{ownBit, lift, limit};
 ghost use Rattle.chart.specs.Shape.{Passed};
-ghost use Rattle.loops.specs.Parts.{Raised, Climbed, AtRest, Batched};
+ghost use Rattle.loops.specs.Climbed.{Raised, Climbed, FullyClimbed, Batched};
 use outcome::Outcome;
 
 // What a state's number is: how many arrows with fewest 0 follow one another from it, up to a cap; or to which of the
@@ -123,7 +123,7 @@ pub fn clear(numbers: &mut [u32])
 // Rounds from 0 on, until none raises a number.
 fn climb_from_zero(search: Search, chart: &[u8], n: usize, m: usize, numbers: &mut [u32])
     requires { ⌜ Passed (now chart) n m × (length (now numbers) ≡ n) ⌝ }
-    ensures { λ _. ⌜ AtRest (chartOf (now (chart .entry))) search (now (numbers .exit)) ⌝ }
+    ensures { λ _. ⌜ FullyClimbed (chartOf (now (chart .entry))) search (now (numbers .exit)) ⌝ }
 {
     clear(numbers);
     while climb_round(search, chart, n, m, numbers) != 0 {}

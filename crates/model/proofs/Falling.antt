@@ -6,10 +6,10 @@ use mathlib.Core.Bool.{Bool}
 use Prim.Native.Nat.{ℕ, zero, suc, _+_, _≤_, _<_}
 use native.Mathlib.Omega.{arith}
 use lib.ListN.{length, set, length-set}
-use Rattle.truth.proofs.Truth.{Yes}
+use Rattle.base.specs.Yes.{Yes}
 use Rattle.tctl.specs.Chart.{Chart, Arrow, states}
 use Rattle.tctl.proofs.Drawn.{Drawn, step-below, quickest}
-use Rattle.tctl.proofs.Path.{Path, stop, step, steps, minutes}
+use Rattle.tctl.specs.Path.{Path, stop, step, steps, minutes}
 use Rattle.model.specs.Engine.{num, round, lower}
 use Rattle.model.proofs.Numbers.{set-elim, num-antisym, Below, below-refl, below-trans}
 use Rattle.model.proofs.Rounds.{round-keeps, round-past}

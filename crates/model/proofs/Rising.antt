@@ -8,11 +8,12 @@ use Prim.Native.Nat.{ℕ, zero, suc, _+_, _≤_, _<_, min}
 use native.Mathlib.Omega.{arith}
 use native.Mathlib.Decide.{decLe}
 use lib.ListN.{length, set, length-set}
-use Rattle.truth.proofs.Truth.{Yes, cond-elim}
+use Rattle.base.specs.Yes.{Yes}
+use Rattle.base.proofs.Truth.{cond-elim}
 use Rattle.tctl.specs.Chart.{Chart, Arrow, Within, states}
 use Rattle.tctl.specs.Run.{Step}
 use Rattle.tctl.proofs.Drawn.{Drawn, step-below}
-use Rattle.tctl.proofs.Path.{Path, stop, step, steps, minutes}
+use Rattle.tctl.specs.Path.{Path, stop, step, To, steps, minutes}
 use Rattle.tctl.proofs.Loop.{Slow, shorten, pumped}
 use Rattle.model.specs.Engine.{num, round, offer, raise}
 use Rattle.model.proofs.Numbers.{set-elim, num-antisym, Below, below-refl, below-trans}
@@ -159,7 +160,7 @@ module _ {G : Chart} (dr : Drawn G) (go : ℕ → Bool) (cap : ℕ) (base : ℕ 
   -- so does a number whose state is on such a loop
   pub rising-loop :
       {k : ℕ} {vs : List ℕ} → Rising G go cap base k vs → (r : ℕ) → r < states G → 1 ≤ num vs r → num vs r < cap →
-      (p : Path G (Yes go) (λ x. x ≡ r) r) → 1 ≤ minutes p → Rising G go cap base k (set vs r cap)
+      (p : Path G (Yes go) (To r) r) → 1 ≤ minutes p → Rising G go cap base k (set vs r cap)
   rising-loop rise r l i h p m =
       let g = rise .backed r l i in
       let comes = gain-slow g (record { knot = r; stem = stop refl; loop = p; exit = g .path }, m) in

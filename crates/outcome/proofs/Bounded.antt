@@ -7,7 +7,7 @@ use Prim.Native.Nat.{ℕ, _≤_}
 use native.Mathlib.Omega.{arith}
 use lib.Dec.{leb}
 use borrow.Author.Tests.{leb-true}
-use Rattle.truth.proofs.Truth.{and-iff}
+use Rattle.base.proofs.Truth.{and-iff}
 use Rattle.outcome.specs.Refusal.{Row, refuse, first}
 
 -- every row's number is at most k

@@ -5,8 +5,8 @@ use mathlib.Core.Option.{none, Option·some-ne-none}
 use Prim.Native.Nat.{ℕ, _≤_}
 use lib.Dec.{ltb, eqb}
 use borrow.Author.Tests.{ltb-false, le-ltb}
-use Rattle.truth.proofs.Truth.{or-false}
-use Rattle.truth.proofs.Compare.{not-differ-iff}
+use Rattle.base.proofs.Truth.{or-false}
+use Rattle.base.proofs.Compare.{not-differ-iff}
 use Rattle.outcome.specs.Refusal.{whole, outside}
 
 pub whole-none : (b : Bool) → whole b ≡ none → b ≡ false

@@ -9,7 +9,7 @@ use borrow.Author.Tests.{le-leb, lt-leb, ne-eqb, eqb-true}
 use Rattle.masks.specs.Member.{member, Put}
 use Rattle.rule.specs.Form.{formOf}
 use Rattle.rule.specs.Refusals.{names, usesIn}
-use Rattle.rule.specs.Parts.{Reaches, Counted}
+use Rattle.rule.specs.Rows.{Reaches, Counted}
 use Rattle.rule.specs.declared.NodeWords.{NodeWords}
 use Rattle.rule.specs.declared.uses.Used.{Used}
 

@@ -5,9 +5,9 @@ ghost use mathlib.Core.List.{[], _∷_};
 ghost use Prim.Native.Nat.{ℕ, _+_, _<_};
 ghost use lib.Dec.{eqb};
 ghost use Rattle.outcome.specs.Refusal.{first};
-ghost use Rattle.rule.specs.Shape.{Ordered, Operands};
+ghost use Rattle.rule.specs.Shape.{Ordered, SmallOperands};
 ghost use Rattle.rule.specs.Refusals.{names, usesIn, uses};
-ghost use Rattle.rule.specs.Parts.{Counted, useRow};
+ghost use Rattle.rule.specs.Rows.{Counted, useRow};
 use crate::NodeWords;
 use outcome::Outcome;
 
@@ -38,7 +38,7 @@ fn with_use(used: Used, v: usize) -> Used
 
 // The uses of a node's operands more.
 fn with_operands(used: Used, w: NodeWords) -> Used
-    requires { ⌜ Operands w ⌝ }
+    requires { ⌜ SmallOperands w ⌝ }
     ensures { λ r. ⌜ ((count : ℕ → ℕ) → Counted used count → Counted r (λ u. count u + usesIn u w)) ⌝ }
 {
     let form = crate::form::form(w.operation);

@@ -1,4 +1,4 @@
--- Node t was read: what the calls for its operands and for its own row ask, and what they leave.
+-- AcceptedNode t was read: what the calls for its operands and for its own row ask, and what they leave.
 use mathlib.Core.Path.{_≡_, ap, subst, _∙_}
 use mathlib.Core.List.{List}
 use Prim.Native.Nat.{ℕ, _≤_, _<_}
@@ -10,21 +10,22 @@ use Rattle.chart.specs.Bytes.{chartOf}
 use Rattle.rule.specs.Bytes.{nodeWords}
 use Rattle.rule.specs.Formula.{formulaAt}
 use Rattle.rule.specs.declared.NodeWords.{NodeWords}
-use Rattle.rule.proofs.Accepted.{Accepted, accepted}
+use Rattle.rule.proofs.Accepted.{AcceptedRule, accepted}
 use Rattle.rule.proofs.Read as read
-use Rattle.fill.specs.Parts.{Wrote}
-use Rattle.nodes.specs.Parts.{Lent, Node, Operands}
-use Rattle.settle.specs.Parts.{Settled}
+use Rattle.fill.specs.Written.{RowWritten}
+use Rattle.until_start.specs.Lent.{Lent}
+use Rattle.nodes.specs.Right.{AcceptedNode, OperandsRight}
+use Rattle.settle.specs.Settled.{Settled}
 use Rattle.settle.proofs.Tree.{Below, below-none, below-left, below-both, operands, settled}
 
 pub record Begun (chart : List ℕ) (n m : ℕ) (rule : List ℕ) (t : ℕ) (w : NodeWords) (marks numbers : List ℕ) :
     Type 0 where
   pub lent : Lent chart n m t marks numbers
-  pub node : read.Node rule t w
+  pub node : read.ReadNode rule t w
 
 module _ {chart : List ℕ} {n m : ℕ} {rule : List ℕ} {t : ℕ} {w : NodeWords} {marks numbers : List ℕ}
     (b : Begun chart n m rule t w marks numbers) where
-  passed : Accepted rule
+  passed : AcceptedRule rule
   passed = accepted rule (b .node .accepted)
 
   operation-is : w .operation ≡ nodeWords rule t .operation
@@ -33,7 +34,7 @@ module _ {chart : List ℕ} {n m : ℕ} {rule : List ℕ} {t : ℕ} {w : NodeWor
   -- a lower node, on marks and numbers as long as those lent
   pub operand-asks :
       {u : ℕ} {mid vs : List ℕ} → u < t → length mid ≡ length marks → length vs ≡ length numbers →
-      Lent chart n m u mid vs × Node rule u
+      Lent chart n m u mid vs × AcceptedNode rule u
   operand-asks h e f = (
     record {
       passed = b .lent .passed;
@@ -67,7 +68,7 @@ module _ {chart : List ℕ} {n m : ℕ} {rule : List ℕ} {t : ℕ} {w : NodeWor
   module _ {mid : List ℕ} (x : Below chart n rule t marks mid) where
     pub own-asks :
         {vs : List ℕ} → length vs ≡ length numbers →
-        (Lent chart n m t mid vs × Node rule t) × Operands chart n rule t mid
+        (Lent chart n m t mid vs × AcceptedNode rule t) × OperandsRight chart n rule t mid
     own-asks f = (
       (
         record {
@@ -81,5 +82,5 @@ module _ {chart : List ℕ} {n m : ℕ} {rule : List ℕ} {t : ℕ} {w : NodeWor
     )
 
     pub own-settled :
-        {new : List ℕ} → Wrote n t (holds (chartOf chart) (formulaAt rule t)) mid new → Settled chart n rule t marks new
+        {new : List ℕ} → RowWritten n t (holds (chartOf chart) (formulaAt rule t)) mid new → Settled chart n rule t marks new
     own-settled = settled passed (b .node .low) x

@@ -1,4 +1,4 @@
-pub mod Visits
+pub mod TimesSettled
 pub mod Tree
 pub mod Begun
 pub mod Once

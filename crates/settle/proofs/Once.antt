@@ -7,59 +7,14 @@ use native.Mathlib.Nat.{add-mul, zero-mul, one-mul, mul-zero}
 use native.Mathlib.Omega.{arith}
 use lib.Dec.{eqb, leb}
 use borrow.Author.Tests.{leb-true, leb-false, eqb-true, eqb-false, ne-eqb}
+use Rattle.base.specs.Sum.{sum}
+use Rattle.base.proofs.Sum.{sum-same, sum-add, sum-zero, sum-cond, sum-one}
 use Rattle.rule.specs.Bytes.{nodeCount, nodeWords}
 use Rattle.rule.specs.Refusals.{uses, usesIn, names}
 use Rattle.rule.proofs.Operation.{has-operand}
-use Rattle.rule.proofs.Accepted.{Accepted, lower-a, lower-b}
-use Rattle.settle.specs.Visits.{visits}
-use Rattle.settle.proofs.Visits.{visits-at}
-
--- f 0 + f 1 + .. + f (k - 1)
-sum : (ℕ → ℕ) → ℕ → ℕ
-sum f zero = 0
-sum f (suc k) = sum f k + f k
-
-sum-same : (f g : ℕ → ℕ) (k : ℕ) → ((v : ℕ) → v < k → f v ≡ g v) → sum f k ≡ sum g k
-unfolding sum
-sum-same f g zero h = refl
-sum-same f g (suc k) h = omega (arith, sum-same f g k (λ v l. h v (omega arith)), h k (omega arith))
-
-sum-add : (f g : ℕ → ℕ) (k : ℕ) → sum (λ v. f v + g v) k ≡ sum f k + sum g k
-unfolding sum
-sum-add f g zero = refl
-sum-add f g (suc k) = omega (arith, sum-add f g k)
-
-sum-zero : (k : ℕ) → sum (λ v. 0) k ≡ 0
-unfolding sum
-sum-zero zero = refl
-sum-zero (suc k) = omega (arith, sum-zero k)
-
--- the terms are there, or all are 0
-sum-cond : (b : Bool) (f g : ℕ → ℕ) (k : ℕ) → sum (λ v. cond b (f v) 0 * g v) k ≡ cond b (sum (λ v. f v * g v) k) 0
-sum-cond true f g k = refl
-sum-cond false f g k = sum-same (λ v. 0 * g v) (λ v. 0) k (λ v l. zero-mul (g v)) ∙ sum-zero k
-
--- of the terms that t chooses there is none before it, and one after it
-sum-none : (t : ℕ) (g : ℕ → ℕ) (k : ℕ) → k ≤ t → sum (λ v. cond (eqb t v) 1 0 * g v) k ≡ 0
-sum-none t g k h =
-    sum-same (λ v. cond (eqb t v) 1 0 * g v) (λ v. 0) k
-    (λ v l. rw (ne-eqb t v (λ e. absurd (let z : ⊥ = omega arith in z))) (zero-mul (g v))) ∙
-    sum-zero k
-
-sum-one : (t : ℕ) (g : ℕ → ℕ) (k : ℕ) → t < k → sum (λ v. cond (eqb t v) 1 0 * g v) k ≡ g t
-unfolding sum
-sum-one t g zero h = absurd (let z : ⊥ = omega arith in z)
-sum-one t g (suc k) h = turn (eqb t k) refl (λ l. sum-one t g k l)
-  where
-    turn :
-        (b : Bool) → eqb t k ≡ b → (t < k → sum (λ v. cond (eqb t v) 1 0 * g v) k ≡ g t) →
-        sum (λ v. cond (eqb t v) 1 0 * g v) k + cond b 1 0 * g k ≡ g t
-    turn true e ih =
-        let f = eqb-true t k e in
-        omega (arith, sum-none t g k (omega arith), one-mul (g k), ap g f)
-    turn false e ih =
-        let f = eqb-false t k e in
-        omega (arith, ih (omega arith), zero-mul (g k))
+use Rattle.rule.proofs.Accepted.{AcceptedRule, lower-a, lower-b}
+use Rattle.settle.specs.TimesSettled.{timesSettled}
+use Rattle.settle.proofs.TimesSettled.{times-settled-at}
 
 -- what an operand adds: the operand itself, and what it leads to
 operand-adds :
@@ -71,7 +26,7 @@ not-both : (b e : Bool) → (b ≡ true → e ≡ false) → cond {A = ℕ} (b &
 not-both true e h = ap (λ e. cond {A = ℕ} e 1 0) (h refl)
 not-both false e h = refl
 
-module _ {s : List ℕ} (acc : Accepted s) where
+module _ {s : List ℕ} (acc : AcceptedRule s) where
   abbrev k : ℕ
   k = nodeCount s
 
@@ -91,30 +46,30 @@ module _ {s : List ℕ} (acc : Accepted s) where
 
   -- Settling t settles u as itself, or through a node v that it settles and that names u: v is t, or an operand of t
   -- leads to it.
-  flow : (d t u : ℕ) → t < d → t < k → visits s t u ≡ cond (eqb t u) 1 0 + sum (λ v. visits s t v * named u v) k
+  flow : (d t u : ℕ) → t < d → t < k → timesSettled s t u ≡ cond (eqb t u) 1 0 + sum (λ v. timesSettled s t v * named u v) k
   flow zero t u h l = absurd (let z : ⊥ = omega arith in z)
   flow (suc d) t u h l =
       let w = nodeWords s t in
       let g : ℕ → ℕ = named u in
       let x : ℕ → ℕ = λ v. cond (eqb t v) 1 0 in
-      let y : ℕ → ℕ = λ v. cond (leb 2 (w .operation)) (visits s (w .a) v) 0 in
-      let z : ℕ → ℕ = λ v. cond (leb 3 (w .operation)) (visits s (w .b) v) 0 in
-      let terms : sum (λ v. visits s t v * g v) k ≡ sum (λ v. x v * g v + y v * g v + z v * g v) k =
-      sum-same (λ v. visits s t v * g v) (λ v. x v * g v + y v * g v + z v * g v) k
-      (λ v i. ap (λ c. c * g v) (visits-at acc t v l) ∙
+      let y : ℕ → ℕ = λ v. cond (leb 2 (w .operation)) (timesSettled s (w .a) v) 0 in
+      let z : ℕ → ℕ = λ v. cond (leb 3 (w .operation)) (timesSettled s (w .b) v) 0 in
+      let terms : sum (λ v. timesSettled s t v * g v) k ≡ sum (λ v. x v * g v + y v * g v + z v * g v) k =
+      sum-same (λ v. timesSettled s t v * g v) (λ v. x v * g v + y v * g v + z v * g v) k
+      (λ v i. ap (λ c. c * g v) (times-settled-at acc t v l) ∙
       add-mul (x v + y v) (z v) (g v) ∙ ap (λ c. c + z v * g v) (add-mul (x v) (y v) (g v))) in
       let parts = sum-add (λ v. x v * g v + y v * g v) (λ v. z v * g v) k in
       let first = sum-add (λ v. x v * g v) (λ v. y v * g v) k in
       let own = sum-one t g k l in
-      let left = sum-cond (leb 2 (w .operation)) (visits s (w .a)) g k in
-      let right = sum-cond (leb 3 (w .operation)) (visits s (w .b)) g k in
-      let a = operand-adds (leb 2 (w .operation)) (eqb (w .a) u) (visits s (w .a) u)
-      (sum (λ v. visits s (w .a) v * g v) k)
+      let left = sum-cond (leb 2 (w .operation)) (timesSettled s (w .a)) g k in
+      let right = sum-cond (leb 3 (w .operation)) (timesSettled s (w .b)) g k in
+      let a = operand-adds (leb 2 (w .operation)) (eqb (w .a) u) (timesSettled s (w .a) u)
+      (sum (λ v. timesSettled s (w .a) v * g v) k)
       (λ e. let i = lower-a acc t l (leb-true 2 _ e) in flow d (w .a) u (omega arith) (omega arith)) in
-      let b = operand-adds (leb 3 (w .operation)) (eqb (w .b) u) (visits s (w .b) u)
-      (sum (λ v. visits s (w .b) v * g v) k)
+      let b = operand-adds (leb 3 (w .operation)) (eqb (w .b) u) (timesSettled s (w .b) u)
+      (sum (λ v. timesSettled s (w .b) v * g v) k)
       (λ e. let i = lower-b acc t l (leb-true 3 _ e) in flow d (w .b) u (omega arith) (omega arith)) in
-      omega (arith, visits-at acc t u l, terms, parts, first, own, left, right, a, b, named-at u t)
+      omega (arith, times-settled-at acc t u l, terms, parts, first, own, left, right, a, b, named-at u t)
 
   -- an operand is lower than the node that names it
   unnamed : (u v : ℕ) → v ≤ u → v < k → named u v ≡ 0
@@ -132,25 +87,25 @@ module _ {s : List ℕ} (acc : Accepted s) where
   uses-sum u (suc j) = ap (λ x. x + named u j) (uses-sum u j)
 
   -- Downwards from the last node: the nodes that name u are above it, so each is settled once, and they name it once.
-  once-from : (d u : ℕ) → u < k → k ≤ u + d → visits s (k - 1) u ≡ 1
+  once-from : (d u : ℕ) → u < k → k ≤ u + d → timesSettled s (k - 1) u ≡ 1
   once-from zero u l h = absurd (let z : ⊥ = omega arith in z)
   once-from (suc d) u l h =
       let last = k - 1 in
       let through = flow k last u (omega arith) (omega arith) in
-      let terms = sum-same (λ v. visits s last v * named u v) (named u) k
+      let terms = sum-same (λ v. timesSettled s last v * named u v) (named u) k
       (λ v i. term v i (leb v u) refl (λ m. once-from d v i (omega arith))) in
       total (eqb last u) refl (omega (arith, through, terms, uses-sum u k))
     where
       term :
-          (v : ℕ) → v < k → (b : Bool) → leb v u ≡ b → (u < v → visits s (k - 1) v ≡ 1) →
-          visits s (k - 1) v * named u v ≡ named u v
+          (v : ℕ) → v < k → (b : Bool) → leb v u ≡ b → (u < v → timesSettled s (k - 1) v ≡ 1) →
+          timesSettled s (k - 1) v * named u v ≡ named u v
       term v i true e ih =
           let z = unnamed u v (leb-true v u e) i in
-          rw z (mul-zero (visits s (k - 1) v))
+          rw z (mul-zero (timesSettled s (k - 1) v))
       term v i false e ih = rw (ih (leb-false v u e)) (one-mul (named u v))
 
       total :
-          (b : Bool) → eqb (k - 1) u ≡ b → visits s (k - 1) u ≡ cond b 1 0 + uses s k u → visits s (k - 1) u ≡ 1
+          (b : Bool) → eqb (k - 1) u ≡ b → timesSettled s (k - 1) u ≡ cond b 1 0 + uses s k u → timesSettled s (k - 1) u ≡ 1
       total true e f =
           let top = eqb-true (k - 1) u e in
           let none = sum-same (named u) (λ v. 0) k (λ v i. unnamed u v (omega arith) i) in
@@ -160,5 +115,5 @@ module _ {s : List ℕ} (acc : Accepted s) where
           omega (arith, f, acc .once u (omega arith))
 
   -- "Every node but the last is an operand exactly once."
-  pub once : (u : ℕ) → u < k → visits s (k - 1) u ≡ 1
+  pub once : (u : ℕ) → u < k → timesSettled s (k - 1) u ≡ 1
   once u l = once-from k u l (omega arith)

@@ -14,12 +14,12 @@ use Rattle.model.proofs.Marks.{row-below}
 use Rattle.chart.specs.Bytes.{chartOf}
 use Rattle.rule.specs.Bytes.{nodeCount, nodeWords}
 use Rattle.rule.specs.Formula.{formulaAt}
-use Rattle.rule.proofs.Accepted.{Accepted, lower-a, lower-b}
-use Rattle.fill.specs.Parts.{Wrote}
-use Rattle.nodes.specs.Parts.{Right, Operands}
-use Rattle.settle.specs.Visits.{visits}
-use Rattle.settle.specs.Parts.{Settled}
-use Rattle.settle.proofs.Visits.{visits-at, visits-self}
+use Rattle.rule.proofs.Accepted.{AcceptedRule, lower-a, lower-b}
+use Rattle.fill.specs.Written.{RowWritten}
+use Rattle.nodes.specs.Right.{Right, OperandsRight}
+use Rattle.settle.specs.TimesSettled.{timesSettled}
+use Rattle.settle.specs.Settled.{Settled}
+use Rattle.settle.proofs.TimesSettled.{times-settled-at, times-settled-self}
 
 -- one of three counts that together are more than 0 is
 one-of :
@@ -36,16 +36,16 @@ one-of false p q false false h = absurd (let z : ⊥ = omega arith in z)
 pub record Below (chart : List ℕ) (n : ℕ) (rule : List ℕ) (t : ℕ) (old mid : List ℕ) : Type 0 where
   pub size : length mid ≡ length old
   pub left :
-      2 ≤ nodeWords rule t .operation → (u : ℕ) → 0 < visits rule (nodeWords rule t .a) u → Right chart n rule u mid
+      2 ≤ nodeWords rule t .operation → (u : ℕ) → 0 < timesSettled rule (nodeWords rule t .a) u → Right chart n rule u mid
   pub right :
-      3 ≤ nodeWords rule t .operation → (u : ℕ) → 0 < visits rule (nodeWords rule t .b) u → Right chart n rule u mid
+      3 ≤ nodeWords rule t .operation → (u : ℕ) → 0 < timesSettled rule (nodeWords rule t .b) u → Right chart n rule u mid
   pub still : (u : ℕ) → Right chart n rule u old → Right chart n rule u mid
   pub after : (j : ℕ) → t * n + n ≤ j → getD mid j 0 ≡ getD old j 0
 
 module _ (chart : List ℕ) (n : ℕ) (rule : List ℕ) (t : ℕ) where
   -- a row that was right is right after row t was written rightly: it is row t, or it lies apart from it
   wrote-still :
-      {mid new : List ℕ} → Wrote n t (holds (chartOf chart) (formulaAt rule t)) mid new →
+      {mid new : List ℕ} → RowWritten n t (holds (chartOf chart) (formulaAt rule t)) mid new →
       (u : ℕ) → Right chart n rule u mid → Right chart n rule u new
   wrote-still {new = new} w u r =
       by-cases (decLt u t)
@@ -66,7 +66,7 @@ module _ {chart : List ℕ} {n : ℕ} {rule : List ℕ} {t : ℕ} where
         after = λ j k. refl;
       }
 
-  module _ (acc : Accepted rule) (l : t < nodeCount rule) where
+  module _ (acc : AcceptedRule rule) (l : t < nodeCount rule) where
     -- one operand
     pub below-left :
         nodeWords rule t .operation ≡ 2 → {old mid : List ℕ} →
@@ -96,25 +96,25 @@ module _ {chart : List ℕ} {n : ℕ} {rule : List ℕ} {t : ℕ} where
               x .after j (omega (arith, row-below n (lower-a acc t l (omega arith))));
         }
 
-    pub operands : {old mid : List ℕ} → Below chart n rule t old mid → Operands chart n rule t mid
+    pub operands : {old mid : List ℕ} → Below chart n rule t old mid → OperandsRight chart n rule t mid
     operands b =
         record {
           left = λ h.
               let k = lower-a acc t l h in
-              b .left h (nodeWords rule t .a) (visits-self acc (nodeWords rule t .a) (omega arith));
+              b .left h (nodeWords rule t .a) (times-settled-self acc (nodeWords rule t .a) (omega arith));
           right = λ h.
               let k = lower-b acc t l h in
-              b .right h (nodeWords rule t .b) (visits-self acc (nodeWords rule t .b) (omega arith));
+              b .right h (nodeWords rule t .b) (times-settled-self acc (nodeWords rule t .b) (omega arith));
         }
 
     -- Its own row last: what settling t settles is t, or is settled by an operand.
     pub settled :
         {old mid new : List ℕ} → Below chart n rule t old mid →
-        Wrote n t (holds (chartOf chart) (formulaAt rule t)) mid new → Settled chart n rule t old new
+        RowWritten n t (holds (chartOf chart) (formulaAt rule t)) mid new → Settled chart n rule t old new
     settled {old} {mid} {new} b w =
         record {
           size = w .size ∙ b .size;
-          done = λ u v. turn u (one-of (eqb t u) _ _ _ _ (subst (λ x. 0 < x) (visits-at acc t u l) v));
+          done = λ u v. turn u (one-of (eqb t u) _ _ _ _ (subst (λ x. 0 < x) (times-settled-at acc t u l) v));
           still = λ u r. wrote-still chart n rule t w u (b .still u r);
           after = λ j k. w .elsewhere j (inr k) ∙ b .after j k;
         }
@@ -122,8 +122,8 @@ module _ {chart : List ℕ} {n : ℕ} {rule : List ℕ} {t : ℕ} where
         turn :
             (u : ℕ) →
             (eqb t u ≡ true) ⊎
-            (((leb 2 (nodeWords rule t .operation) ≡ true) × (0 < visits rule (nodeWords rule t .a) u)) ⊎
-            ((leb 3 (nodeWords rule t .operation) ≡ true) × (0 < visits rule (nodeWords rule t .b) u))) →
+            (((leb 2 (nodeWords rule t .operation) ≡ true) × (0 < timesSettled rule (nodeWords rule t .a) u)) ⊎
+            ((leb 3 (nodeWords rule t .operation) ≡ true) × (0 < timesSettled rule (nodeWords rule t .b) u))) →
             Right chart n rule u new
         turn u (inl e) = subst (λ v. Right chart n rule v new) (eqb-true t u e) (w .here)
         turn u (inr (inl k)) = wrote-still chart n rule t w u (b .left (leb-true 2 _ (k .0)) u (k .1))

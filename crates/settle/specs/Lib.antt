@@ -1,2 +1,2 @@
-pub mod Visits
-pub mod Parts
+pub mod TimesSettled
+pub mod Settled

@@ -1,6 +1,7 @@
 // Settling a node of a rule's tree: its operands first, whose numbers are lower, then its own row of marks.
-ghost use Rattle.nodes.specs.Parts.{Lent, Node};
-ghost use Rattle.settle.specs.Parts.{Settled};
+ghost use Rattle.until_start.specs.Lent.{Lent};
+ghost use Rattle.nodes.specs.Right.{AcceptedNode};
+ghost use Rattle.settle.specs.Settled.{Settled};
 
 pub fn settle(
     chart: &[u8],
@@ -11,7 +12,7 @@ pub fn settle(
     marks: &mut [u8],
     numbers: &mut [u32],
 )
-    requires { ⌜ Lent (now chart) n m t (now marks) (now numbers) × Node (now rule) t ⌝ }
+    requires { ⌜ Lent (now chart) n m t (now marks) (now numbers) × AcceptedNode (now rule) t ⌝ }
     ensures { λ _. ⌜ Settled (now (chart .entry)) n (now (rule .entry)) t (now (marks .entry)) (now (marks .exit)) ⌝ }
 {
     let node = rule::node_at(rule, t);

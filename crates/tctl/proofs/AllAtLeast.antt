@@ -6,11 +6,12 @@ use mathlib.Core.Logic.{_⊎_, inl, inr, by-cases}
 use Prim.Native.Nat.{ℕ, zero, suc, _+_, _≤_, _<_}
 use native.Mathlib.Omega.{arith}
 use native.Mathlib.Decide.{decLe}
+use Rattle.base.specs.Sum.{sum}
 use Rattle.tctl.specs.Chart.{Chart, states}
-use Rattle.tctl.specs.Run.{Run, Step, total, moment}
+use Rattle.tctl.specs.Run.{Run, Step, moment}
 use Rattle.tctl.specs.Formula.{atLeast}
 use Rattle.tctl.proofs.Drawn.{Drawn, step-below}
-use Rattle.tctl.proofs.Path.{Path, stop, step, minutes}
+use Rattle.tctl.specs.Path.{Path, stop, step, minutes}
 use Rattle.tctl.proofs.Run.{first, after, moment-after}
 use Rattle.tctl.proofs.Passes.{Passes, Lively, passes-rest}
 use Rattle.tctl.proofs.Until.{Until, later, until-weaken}
@@ -50,7 +51,7 @@ module _ {G : Chart} (dr : Drawn G) {P Q go bad : ℕ → Type 0} {c : ℕ} wher
     met-from :
         (i k : ℕ) {s : ℕ} → s < states G → k < c → ((p : Path G go bad s) → c ≤ k + minutes p) →
         (r : Run G s) → Passes (r .duration) → c ≤ k + moment r i → Until P Q (atLeast c) k (r .state) (r .duration)
-    unfolding total
+    unfolding sum
     met-from zero k l m far r f h = absurd (let z : ⊥ = omega arith in z)
     met-from (suc i) k {s} l m far r f h =
         turn

@@ -4,11 +4,12 @@ use mathlib.Core.Logic.{by-cases}
 use Prim.Native.Nat.{ℕ, zero, suc, _+_, _≤_, _<_}
 use native.Mathlib.Omega.{arith}
 use native.Mathlib.Decide.{decLe}
+use Rattle.base.specs.Sum.{sum}
 use Rattle.tctl.specs.Chart.{Chart, states}
-use Rattle.tctl.specs.Run.{Run, Step, total, moment}
+use Rattle.tctl.specs.Run.{Run, Step, moment}
 use Rattle.tctl.specs.Formula.{Bound, atMost}
 use Rattle.tctl.proofs.Drawn.{Drawn, step-below}
-use Rattle.tctl.proofs.Path.{Path, stop, step, minutes, Any}
+use Rattle.tctl.specs.Path.{Path, stop, step, minutes, Any}
 use Rattle.tctl.proofs.Run.{first, after, moment-after}
 use Rattle.tctl.proofs.Passes.{Passes, Lively}
 use Rattle.tctl.proofs.Until.{Until, now, later}
@@ -65,7 +66,7 @@ module _
   met-by :
       (i k : ℕ) {s : ℕ} → ¬ Late G P Q m k s → (r : Run G s) → c < k + moment r i →
       Until P Q (atMost c) k (r .state) (r .duration)
-  unfolding total
+  unfolding sum
   met-by zero k no-late r h = absurd (no-late (lasts (stop tt) (omega arith)))
   met-by (suc i) k {s} no-late r h =
       turn (λ w. met-by i (k + d) w (after r) (omega (arith, moment-after r i))) (decQ s) (decP s)

@@ -1,10 +1,8 @@
-pub mod Tabulate
 pub mod Drawn
 pub mod Path
 pub mod Run
 pub mod Passes
 pub mod Prefix
-pub mod Pigeonhole
 pub mod Loop
 pub mod Instant
 pub mod Passing

@@ -6,29 +6,15 @@ use native.Mathlib.Omega.{arith}
 use native.Mathlib.Decide.{decLe}
 use Rattle.tctl.specs.Chart.{Chart, states}
 use Rattle.tctl.proofs.Drawn.{Drawn}
-use Rattle.tctl.proofs.Path.{
-  Path,
-  stop,
-  step,
-  steps,
-  minutes,
-  at,
-  at-zero,
-  at-below,
-  cast,
-  steps-cast,
-  minutes-cast,
-  append,
-  steps-append,
-  minutes-append,
-}
-use Rattle.tctl.proofs.Pigeonhole.{pigeonhole}
+use Rattle.tctl.specs.Path.{Path, stop, step, To, steps, minutes}
+use Rattle.tctl.proofs.Path.{at, at-zero, at-below, cast, steps-cast, minutes-cast, append, steps-append, minutes-append}
+use Rattle.base.proofs.Pigeonhole.{pigeonhole}
 
 -- a path to a state, a path from there back to it, and a path on from it
 pub record Lasso (G : Chart) (go end : ℕ → Type 0) (s : ℕ) : Type 0 where
   pub knot : ℕ
-  pub stem : Path G go (λ x. x ≡ knot) s
-  pub loop : Path G go (λ x. x ≡ knot) knot
+  pub stem : Path G go (To knot) s
+  pub loop : Path G go (To knot) knot
   pub exit : Path G go end knot
 
 -- the parts of the path p, which has a loop
@@ -40,7 +26,7 @@ pub record Looped {G : Chart} {go end : ℕ → Type 0} {s : ℕ} (p : Path G go
 
 -- the parts of the path p, cut after i steps, in u
 record Cut {G : Chart} {go end : ℕ → Type 0} {s : ℕ} (p : Path G go end s) (i u : ℕ) : Type 0 where
-  front : Path G go (λ x. x ≡ u) s
+  front : Path G go (To u) s
   back : Path G go end u
   steps-front : steps front ≡ i
   steps-all : steps front + steps back ≡ steps p
@@ -147,12 +133,12 @@ module _ {G : Chart} {go end : ℕ → Type 0} where
   -- ── The loop taken again ──
 
   -- k times round the loop, and then on
-  abbrev pump : {u : ℕ} → Path G go (λ x. x ≡ u) u → Path G go end u → ℕ → Path G go end u
+  abbrev pump : {u : ℕ} → Path G go (To u) u → Path G go end u → ℕ → Path G go end u
   pump r o zero = o
   pump {u} r o (suc k) = append u r (pump r o k)
 
   minutes-pump :
-      {u : ℕ} (r : Path G go (λ x. x ≡ u) u) (o : Path G go end u) (k : ℕ) → 1 ≤ minutes r → k ≤ minutes (pump r o k)
+      {u : ℕ} (r : Path G go (To u) u) (o : Path G go end u) (k : ℕ) → 1 ≤ minutes r → k ≤ minutes (pump r o k)
   minutes-pump r o zero l = omega arith
   minutes-pump {u} r o (suc k) l = omega (arith, minutes-pump r o k l, minutes-append u r (pump r o k))
 

@@ -4,11 +4,12 @@ use mathlib.Core.Logic.{by-cases}
 use Prim.Native.Nat.{ℕ, zero, suc, _+_, _≤_, _<_}
 use native.Mathlib.Omega.{arith}
 use native.Mathlib.Decide.{decLe}
+use Rattle.base.specs.Sum.{sum}
 use Rattle.tctl.specs.Chart.{Chart, states}
-use Rattle.tctl.specs.Run.{Run, total, moment}
+use Rattle.tctl.specs.Run.{Run, moment}
 use Rattle.tctl.specs.Accepted.{Accepted}
 use Rattle.tctl.proofs.Drawn.{Drawn, accepted-drawn, step-below}
-use Rattle.tctl.proofs.Path.{Path, steps, minutes, Any}
+use Rattle.tctl.specs.Path.{Path, Any, To, steps, minutes}
 use Rattle.tctl.proofs.Run.{first, after, moment-after}
 use Rattle.tctl.proofs.Passes.{Passes}
 use Rattle.tctl.proofs.Prefix.{prefix}
@@ -20,7 +21,7 @@ module _ {G : Chart} (acc : Accepted G) where
   dr = accepted-drawn acc
 
   -- a loop takes a minute: otherwise its arrows would all have fewest 0
-  loop-minute : {go : ℕ → Type 0} (u : ℕ) (p : Path G go (λ x. x ≡ u) u) → 1 ≤ steps p → 1 ≤ minutes p
+  loop-minute : {go : ℕ → Type 0} (u : ℕ) (p : Path G go (To u) u) → 1 ≤ steps p → 1 ≤ minutes p
   loop-minute u p l =
       by-cases (decLe 1 (minutes p)) (λ h. h) (λ h. absurd (acc .timed u (instant u p l (omega arith))))
 
@@ -37,7 +38,7 @@ module _ {G : Chart} (acc : Accepted G) where
   beyond :
       (c : ℕ) → ((s : ℕ) → s < states G → (r : Run G s) → (i : ℕ) × c < moment r i) →
       (k s : ℕ) → s < states G → (r : Run G s) → (i : ℕ) × c + moment r k < moment r i
-  unfolding total
+  unfolding sum
   beyond c f zero s l r = let x = f s l r in (x .0, omega (arith, x .1))
   beyond c f (suc k) s l r =
       let x = beyond c f k (r .state 1) (step-below dr (first r)) (after r) in

@@ -1,29 +1,13 @@
--- Finite paths of a chart: their steps and minutes, their states, and how paths are put together.
+-- The states of a path, and how paths are put together.
 use mathlib.Core.Path.{_≡_, refl, sym, subst, _∙_}
 use Prim.Native.Nat.{ℕ, zero, suc, _+_, _<_}
 use native.Mathlib.Omega.{arith}
 use Rattle.tctl.specs.Chart.{Chart, states}
 use Rattle.tctl.specs.Run.{Step}
+use Rattle.tctl.specs.Path.{Path, stop, step, To, steps, minutes}
 use Rattle.tctl.proofs.Drawn.{Drawn, step-below}
 
--- a path from s: every state but the last satisfies go, and the last satisfies end
-pub data Path (G : Chart) (go end : ℕ → Type 0) : ℕ → Type 0 where
-  stop : {s : ℕ} → end s → Path G go end s
-  step : {s d t : ℕ} → go s → Step G s d t → Path G go end t → Path G go end s
-
--- what every state satisfies
-abbrev pub Any : ℕ → Type 0
-Any s = Unit {0}
-
 module _ {G : Chart} {go end : ℕ → Type 0} where
-  abbrev pub steps : {s : ℕ} → Path G go end s → ℕ
-  steps (stop e) = 0
-  steps (step g x p) = suc (steps p)
-
-  abbrev pub minutes : {s : ℕ} → Path G go end s → ℕ
-  minutes (stop e) = 0
-  minutes (step {d = d} g x p) = d + minutes p
-
   -- the state after i steps; after the last one, the last
   abbrev pub at : {s : ℕ} → Path G go end s → ℕ → ℕ
   at {s} (stop e) i = s
@@ -71,17 +55,17 @@ module _ {G : Chart} {go end : ℕ → Type 0} where
   minutes-cast e (step g x p) = refl
 
   -- a path to u, and then a path from u
-  abbrev pub append : {s : ℕ} (u : ℕ) → Path G go (λ x. x ≡ u) s → Path G go end u → Path G go end s
+  abbrev pub append : {s : ℕ} (u : ℕ) → Path G go (To u) s → Path G go end u → Path G go end s
   append u (stop e) q = cast e q
   append u (step g x p) q = step g x (append u p q)
 
   pub steps-append :
-      {s : ℕ} (u : ℕ) (p : Path G go (λ x. x ≡ u) s) (q : Path G go end u) → steps (append u p q) ≡ steps p + steps q
+      {s : ℕ} (u : ℕ) (p : Path G go (To u) s) (q : Path G go end u) → steps (append u p q) ≡ steps p + steps q
   steps-append u (stop e) q = omega (arith, steps-cast e q)
   steps-append u (step g x p) q = omega (arith, steps-append u p q)
 
   pub minutes-append :
-      {s : ℕ} (u : ℕ) (p : Path G go (λ x. x ≡ u) s) (q : Path G go end u) →
+      {s : ℕ} (u : ℕ) (p : Path G go (To u) s) (q : Path G go end u) →
       minutes (append u p q) ≡ minutes p + minutes q
   minutes-append u (stop e) q = omega (arith, minutes-cast e q)
   minutes-append u (step g x p) q = omega (arith, minutes-append u p q)
@@ -92,6 +76,10 @@ module _
   abbrev pub weaken : {s : ℕ} → Path G go end s → Path G go′ end′ s
   weaken (stop {s} e) = stop (g s e)
   weaken (step {s} h x p) = step (f s h) x (weaken p)
+
+  pub steps-weaken : {s : ℕ} (p : Path G go end s) → steps (weaken p) ≡ steps p
+  steps-weaken (stop e) = refl
+  steps-weaken (step h x p) = omega (arith, steps-weaken p)
 
   pub minutes-weaken : {s : ℕ} (p : Path G go end s) → minutes (weaken p) ≡ minutes p
   minutes-weaken (stop e) = refl

@@ -2,9 +2,10 @@
 use mathlib.Core.Path.{_≡_, refl, subst}
 use Prim.Native.Nat.{ℕ, zero, suc, _<_}
 use native.Mathlib.Omega.{arith}
+use Rattle.base.specs.Sum.{sum}
 use Rattle.tctl.specs.Chart.{Chart}
-use Rattle.tctl.specs.Run.{Run, total, moment}
-use Rattle.tctl.proofs.Path.{Path, stop, step, steps, minutes}
+use Rattle.tctl.specs.Run.{Run, moment}
+use Rattle.tctl.specs.Path.{Path, stop, step, steps, minutes}
 use Rattle.tctl.proofs.Run.{first, after, moment-after}
 
 pub prefix :
@@ -12,7 +13,7 @@ pub prefix :
     end (r .state k) →
     ((j : ℕ) → j < k → go (r .state j)) →
     (p : Path G go end s) × (steps p ≡ k) × (minutes p ≡ moment r k)
-unfolding total
+unfolding sum
 prefix {end = end} r zero e b = (stop (subst end (r .starts) e), refl, refl)
 prefix {go} r (suc k) e b =
     let q = prefix (after r) k e (λ j l. b (suc j) (omega arith)) in (

@@ -2,17 +2,11 @@
 use mathlib.Core.Path.{_≡_, refl, sym, subst}
 use Prim.Native.Nat.{ℕ, zero, suc, _+_, _<_}
 use native.Mathlib.Omega.{arith}
+use Rattle.base.proofs.Sum.{sum-suc}
 use Rattle.tctl.specs.Chart.{Chart, states}
-use Rattle.tctl.specs.Run.{Run, Step, total, moment}
+use Rattle.tctl.specs.Run.{Run, Step, moment}
 use Rattle.tctl.proofs.Drawn.{Drawn, step-below}
 use Rattle.tctl.proofs.Path.{step-cast}
-
--- ── Durations and their sums ──
-
-pub total-suc : (f : ℕ → ℕ) (i : ℕ) → total f (suc i) ≡ f 0 + total (λ j. f (suc j)) i
-unfolding total
-total-suc f zero = omega arith
-total-suc f (suc i) = omega (arith, total-suc f i)
 
 -- a sequence with a in front
 abbrev pub front : ℕ → (ℕ → ℕ) → ℕ → ℕ
@@ -45,7 +39,7 @@ module _ {G : Chart} where
       }
 
   pub moment-after : {s : ℕ} (r : Run G s) (i : ℕ) → moment r (suc i) ≡ r .duration 0 + moment (after r) i
-  moment-after r i = total-suc (r .duration) i
+  moment-after r i = sum-suc (r .duration) i
 
   -- a run stays in the chart's states
   pub run-below : Drawn G → {s : ℕ} → s < states G → (r : Run G s) (i : ℕ) → r .state i < states G

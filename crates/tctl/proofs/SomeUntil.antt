@@ -8,7 +8,7 @@ use Rattle.tctl.specs.Run.{Run}
 use Rattle.tctl.specs.Formula.{Bound, Meets}
 use Rattle.tctl.specs.Holds.{Met}
 use Rattle.tctl.proofs.Drawn.{Drawn, step-below}
-use Rattle.tctl.proofs.Path.{Path, stop, step, minutes}
+use Rattle.tctl.specs.Path.{Path, stop, step, minutes}
 use Rattle.tctl.proofs.Run.{ahead}
 use Rattle.tctl.proofs.Passes.{Passes, Lively, passes-front}
 use Rattle.tctl.proofs.Prefix.{prefix}

@@ -3,24 +3,26 @@ use mathlib.Core.Path.{_≡_, subst}
 use mathlib.Core.Logic.{_↔_, _⊎_, inl, inr}
 use Prim.Native.Nat.{ℕ, zero, suc, _+_, _<_}
 use native.Mathlib.Omega.{arith}
+use Rattle.base.specs.Sum.{sum}
 use Rattle.tctl.specs.Chart.{Chart, states}
-use Rattle.tctl.specs.Run.{Run, total, moment}
+use Rattle.tctl.specs.Run.{Run, moment}
 use Rattle.tctl.specs.Formula.{Bound, Meets}
 use Rattle.tctl.specs.Holds.{Met}
 use Rattle.tctl.proofs.Drawn.{Drawn}
-use Rattle.tctl.proofs.Run.{total-suc, run-below}
+use Rattle.tctl.proofs.Run.{run-below}
+use Rattle.base.proofs.Sum.{sum-suc}
 
 -- the until is met along the sequence, whose first state has the moment k
 pub record Until (P Q : ℕ → Type 0) (b : Bound) (k : ℕ) (state duration : ℕ → ℕ) : Type 0 where
   pub position : ℕ
-  pub intime : Meets b (k + total duration position)
+  pub intime : Meets b (k + sum duration position)
   pub there : Q (state position)
   pub before : (j : ℕ) → j < position → P (state j)
 
 module _ {P Q : ℕ → Type 0} {b : Bound} {k : ℕ} {state duration : ℕ → ℕ} where
   -- Q holds at the first state
   pub now : Meets b k → Q (state 0) → Until P Q b k state duration
-  unfolding total
+  unfolding sum
   now m q =
       record {
         position = 0;
@@ -36,8 +38,8 @@ module _ {P Q : ℕ → Type 0} {b : Bound} {k : ℕ} {state duration : ℕ → 
       Until P Q b k state duration
   later p u =
       let i = u .position in
-      let e : k + duration 0 + total (λ j. duration (suc j)) i ≡ k + total duration (suc i) =
-      omega (arith, total-suc duration i) in
+      let e : k + duration 0 + sum (λ j. duration (suc j)) i ≡ k + sum duration (suc i) =
+      omega (arith, sum-suc duration i) in
       record {
         position = suc i;
         intime = subst (Meets b) e (u .intime);
@@ -50,17 +52,17 @@ module _ {P Q : ℕ → Type 0} {b : Bound} {k : ℕ} {state duration : ℕ → 
       Until P Q b k state duration →
       (Meets b k × Q (state 0)) ⊎
       (P (state 0) × Until P Q b (k + duration 0) (λ i. state (suc i)) (λ i. duration (suc i)))
-  unfolding total
+  unfolding sum
   now-or-later u = turn (u .position) (u .intime) (u .there) (u .before)
     where
       turn :
-          (i : ℕ) → Meets b (k + total duration i) → Q (state i) → ((j : ℕ) → j < i → P (state j)) →
+          (i : ℕ) → Meets b (k + sum duration i) → Q (state i) → ((j : ℕ) → j < i → P (state j)) →
           (Meets b k × Q (state 0)) ⊎
           (P (state 0) × Until P Q b (k + duration 0) (λ i. state (suc i)) (λ i. duration (suc i)))
       turn zero m q f = inl (subst (Meets b) (let e : k + 0 ≡ k = omega arith in e) m, q)
       turn (suc i) m q f =
-          let e : k + total duration (suc i) ≡ k + duration 0 + total (λ j. duration (suc j)) i =
-          omega (arith, total-suc duration i) in
+          let e : k + sum duration (suc i) ≡ k + duration 0 + sum (λ j. duration (suc j)) i =
+          omega (arith, sum-suc duration i) in
           inr (
             f 0 (omega arith),
             record { position = i; intime = subst (Meets b) e m; there = q; before = λ j l. f (suc j) (omega arith) },
@@ -75,7 +77,7 @@ pub until-weaken :
 until-weaken {duration = duration} f u =
     record {
       position = u .position;
-      intime = f (total duration (u .position)) (u .intime);
+      intime = f (sum duration (u .position)) (u .intime);
       there = u .there;
       before = u .before;
     }

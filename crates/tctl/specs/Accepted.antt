@@ -1,15 +1,14 @@
 -- What the checks of a chart leave of its meaning. The quoted conditions are of rows 7, 8, 9 and 19 of 01's table.
 use mathlib.Core.Path.{_≡_}
 use mathlib.Core.List.{List·Memᴰ}
-use Prim.Native.Nat.{ℕ, _<_}
+use Prim.Native.Nat.{ℕ, _≤_, _<_}
 use Rattle.tctl.specs.Chart.{Chart, Arrow, Within, states}
+use Rattle.tctl.specs.Path.{Path, Any, To, steps, minutes}
 
--- arrows of the chart, one after the other from s to t, one at least, "whose fewest are all 0"
-pub data Instant (G : Chart) (t : ℕ) : ℕ → Type 0 where
-  last : {s : ℕ} (a : Arrow) → List·Memᴰ a (G .arrows) → a .start ≡ s → a .fewest ≡ 0 → a .end ≡ t → Instant G t s
-  next :
-      {s : ℕ} (a : Arrow) → List·Memᴰ a (G .arrows) → a .start ≡ s → a .fewest ≡ 0 → Instant G t (a .end) →
-      Instant G t s
+-- a path from s to t of one step at least that takes no minute: its arrows are those "whose fewest are all 0", since only
+-- these can be taken in no minute
+abbrev pub Instant : Chart → ℕ → ℕ → Type 0
+Instant G t s = (p : Path G Any (To t) s) × (1 ≤ steps p) × (minutes p ≡ 0)
 
 -- s is on "a loop of arrows whose fewest are all 0"
 abbrev pub OnZeroLoop : Chart → ℕ → Type 0

@@ -1,6 +1,6 @@
-pub mod Tabulate
 pub mod Chart
 pub mod Run
+pub mod Path
 pub mod Formula
 pub mod Holds
 pub mod Accepted

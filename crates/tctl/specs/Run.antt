@@ -1,7 +1,8 @@
 -- Runs. The quoted sentences are of 01, "Meaning of charts and rules".
 use mathlib.Core.Path.{_≡_}
 use mathlib.Core.List.{List·Memᴰ}
-use Prim.Native.Nat.{ℕ, zero, suc, _+_, _≤_}
+use Prim.Native.Nat.{ℕ, suc, _≤_}
+use Rattle.base.specs.Sum.{sum}
 use Rattle.tctl.specs.Chart.{Chart, Arrow, Within}
 
 -- "it takes an arrow from there with one duration in its slot": from s to t, in d minutes
@@ -20,11 +21,6 @@ pub record Run (G : Chart) (s : ℕ) : Type 0 where
   pub starts : state 0 ≡ s
   pub moves : (i : ℕ) → Step G (state i) (duration i) (state (suc i))
 
--- the sum of d 0, .., d (i - 1)
-unfoldable pub total : (ℕ → ℕ) → ℕ → ℕ
-total d zero = 0
-total d (suc i) = total d i + d i
-
 -- "The moment of position 0 is 0; a later moment is the sum of the durations before it."
 abbrev pub moment : {G : Chart} {s : ℕ} → Run G s → ℕ → ℕ
-moment r = total (r .duration)
+moment r = sum (r .duration)

@@ -1,6 +1,3 @@
-pub mod Weights
-pub mod Offer
-pub mod Reaching
 pub mod Moved
 pub mod Went
 pub mod Tested

@@ -8,10 +8,10 @@ use lib.ListN.{set, length-set}
 use Rattle.tctl.specs.Chart.{Arrow}
 use Rattle.model.specs.Engine.{num}
 use Rattle.model.proofs.Numbers.{set-elim, Below, below-refl, below-trans}
-use Rattle.visits.specs.declared.Way.{Way}
-use Rattle.visits.specs.Way.{ceilingOf, reachedOf}
+use Rattle.ways.specs.declared.Way.{Way}
+use Rattle.ways.specs.Way.{ceilingOf, reachedOf}
 use Rattle.visits.specs.Moves.{arrowAt, offerAt, Held, Moved, none, more, leap}
-use Rattle.visits.proofs.Offer.{offers-more, reaches}
+use Rattle.ways.proofs.Offer.{offers-more, reaches}
 
 -- a value that is set to more
 set-more : {vs : List ℕ} (s v : ℕ) → num vs s ≤ v → Below vs (set vs s v)

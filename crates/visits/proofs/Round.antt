@@ -13,9 +13,9 @@ use Rattle.chart.specs.Bytes.{chartOf}
 use Rattle.hints.specs.Circle.{Circled}
 use Rattle.hints.specs.Values.{radix, testedOf, values, Open}
 use Rattle.hints.proofs.Values.{values-length}
-use Rattle.visits.specs.declared.Climb.{Climb}
-use Rattle.visits.specs.declared.Way.the-variants.{Raise}
-use Rattle.visits.specs.Way.{highest, ceilingOf, beside}
+use Rattle.ways.specs.declared.Climb.{Climb}
+use Rattle.ways.specs.declared.Way.the-variants.{Raise}
+use Rattle.ways.specs.Way.{highest, ceilingOf, beside}
 use Rattle.visits.specs.Moves.{Ready, none, leap, Went}
 use Rattle.visits.proofs.Tested.{tested-open}
 use Rattle.visits.proofs.Went.{went-set}

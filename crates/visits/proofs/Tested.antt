@@ -14,11 +14,11 @@ use Rattle.model.specs.Weighed.{weight}
 use Rattle.model.proofs.Raise.{offer-le}
 use Rattle.hints.specs.Values.{radix, testedOf, values}
 use Rattle.hints.proofs.Values.{value-at}
-use Rattle.visits.specs.declared.Way.{Way}
-use Rattle.visits.specs.declared.Way.the-variants.{Lower, Raise}
-use Rattle.visits.specs.Way.{top, Fits, ceilingOf, offerOf, beside}
+use Rattle.ways.specs.declared.Way.{Way}
+use Rattle.ways.specs.declared.Way.the-variants.{Lower, Raise}
+use Rattle.ways.specs.Way.{top, Fits, ceilingOf, offerOf, beside}
 use Rattle.visits.specs.Moves.{Ready, Held}
-use Rattle.visits.proofs.Reaching.{low-ceiling}
+use Rattle.ways.proofs.Reaching.{low-ceiling}
 
 module _ {way : Way} {go : ℕ → Bool} {ns : List ℕ} (r : Ready way go ns) (s : ℕ) (l : s < length ns) where
   abbrev value : ℕ

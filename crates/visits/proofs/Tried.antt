@@ -1,6 +1,6 @@
 -- An arrow that is tried: its start has what it offers, or gets it.
 use mathlib.Core.Path.{_≡_, sym, ap, subst, _∙_}
-use mathlib.Core.Bool.{Bool, true, false, _&&_}
+use mathlib.Core.Bool.{Bool, true, _&&_}
 use mathlib.Core.Bool.{not as neg}
 use mathlib.Core.List.{List}
 use Prim.Native.Nat.{ℕ, _≤_, _<_, min}
@@ -8,16 +8,16 @@ use native.Mathlib.Omega.{arith}
 use lib.ListN.{length, set}
 use lib.Seq.{getD-set-same}
 use lib.Dec.{ltb}
-use Rattle.truth.proofs.Truth.{cond-elim}
+use Rattle.base.proofs.Truth.{cond-elim}
 use Rattle.model.specs.Engine.{num}
 use Rattle.chart.specs.declared.ArrowWords.{ArrowWords}
 use Rattle.chart.specs.Bytes.{arrowWords, arrowOf}
 use Rattle.hints.specs.Values.{radix, valueOf, testedOf, values}
 use Rattle.hints.proofs.Values.{value-at, values-set, values-length}
-use Rattle.visits.specs.declared.Way.{Way}
-use Rattle.visits.specs.Way.{top, Fits, ceilingOf, leapsOf, offerOf, reachedOf, beside, Offers, Reached}
+use Rattle.ways.specs.declared.Way.{Way}
+use Rattle.ways.specs.Way.{top, Fits, ceilingOf, leapsOf, offerOf, reachedOf, beside, Offers, Reached}
 use Rattle.visits.specs.Moves.{Ready, arrowAt, Held, Moved, none, more, Went}
-use Rattle.visits.proofs.Reaching.{beside-value, low-ceiling}
+use Rattle.ways.proofs.Reaching.{beside-value, low-ceiling}
 use Rattle.visits.proofs.Tested.{tested-open, tested-held}
 use Rattle.visits.proofs.Went.{went-set}
 

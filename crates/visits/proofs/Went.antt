@@ -5,14 +5,14 @@ use mathlib.Core.List.{List, [], _∷_}
 use Prim.Native.Nat.{ℕ, zero, suc, _+_, _-_, _≤_, _<_}
 use native.Mathlib.Omega.{arith}
 use lib.ListN.{length, set, length-set}
-use Rattle.truth.proofs.Truth.{or-false}
+use Rattle.base.proofs.Truth.{or-false}
 use Rattle.tctl.specs.Chart.{Arrow}
 use Rattle.model.specs.Engine.{num}
 use Rattle.model.proofs.Numbers.{set-elim, Below}
 use Rattle.hints.specs.Values.{valueOf, testedOf, values}
 use Rattle.hints.proofs.Values.{values-set, values-length}
-use Rattle.visits.specs.declared.Way.{Way}
-use Rattle.visits.specs.Way.{top, ceilingOf, sideOf, beside}
+use Rattle.ways.specs.declared.Way.{Way}
+use Rattle.ways.specs.Way.{top, ceilingOf, sideOf, beside}
 use Rattle.visits.specs.Moves.{Given, Ready, Held, Moved, none, total, left, Went}
 use Rattle.visits.proofs.Moved.{moved-below, moved-both}
 

@@ -10,9 +10,9 @@ use Rattle.chart.specs.Bytes.{arrowWords, arrowOf, chartOf}
 use Rattle.chart.specs.Shape.{Passed}
 use Rattle.hints.specs.Circle.{Circled}
 use Rattle.hints.specs.Values.{valueOf, testedOf, values}
-use Rattle.visits.specs.declared.Way.{Way}
-use Rattle.visits.specs.declared.Way.the-variants.{Lower, Raise}
-use Rattle.visits.specs.Way.{top, Fits, ceilingOf, offerOf, reachedOf, sideOf, beside}
+use Rattle.ways.specs.declared.Way.{Way}
+use Rattle.ways.specs.declared.Way.the-variants.{Lower, Raise}
+use Rattle.ways.specs.Way.{top, Fits, ceilingOf, offerOf, reachedOf, sideOf, beside}
 
 -- a chart that passes checks 1 to 9, a number for each of its states, and a cap in range
 pub record Given (way : Way) (chart : List ℕ) (n m : ℕ) (ns : List ℕ) : Type 0 where

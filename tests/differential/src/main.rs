@@ -5,52 +5,25 @@
 //! named and large ones by its number, `--replay CASE` the one whose line a difference printed. The status is 1 if
 //! anything differs or a number of the refusal table was never met, 2 if the options are wrong.
 //!
-//! `--programs DIR` runs the programs desk and rattle_calls of that folder instead and compares all they print with the
+//! `--programs DIR` runs the programs desk and desk_test_calls of that folder instead and compares all they print with the
 //! oracle's texts: on the named pairs of files, then on 300 random ones with a fixed seed. The other options are the same,
 //! for pairs of files; `--long` runs 10,000. The status is 1 too if the random pairs did not lead to listings and to
 //! refusals, to rows that are found and to empty ones, and 2 if a program is not there.
 //!
 //! The file that the variable DIFFERENTIAL_LAST names, if it is set, holds the options of the case under way.
 
-mod asks;
-mod case;
-mod chart;
-mod compare;
-mod damage;
-mod faults;
-mod files;
-mod folder;
-mod generate;
-mod items;
-mod judge;
-mod large;
-mod last;
-mod limits;
-mod limits_length;
-mod limits_rows;
-mod maps;
-mod met;
+mod bytes;
+mod calls;
+mod cases;
 mod named;
 mod options;
-mod pairs;
-mod process;
 mod programs;
-mod promises;
-mod replay;
-mod report;
-mod rng;
-mod rows;
-mod rule;
-mod run;
-mod summary;
-mod table;
-mod table_maps;
-mod table_rules;
-mod trees;
+mod random;
 
 use std::process::ExitCode;
 
-use last::Last;
+use calls::{report, run};
+use cases::last::Last;
 use options::Task;
 
 fn main() -> ExitCode {
@@ -71,7 +44,7 @@ fn perform(task: Task) -> Result<bool, String> {
         Task::Run { seed, count } => Ok(run::all(last, seed, count)),
         Task::One(which) => run::one(last, which),
         Task::Replay(case) => Ok(run::alone(&case)),
-        Task::Programs { folder, seed, count } => programs::all(&folder, seed, count),
-        Task::Pair { folder, which } => programs::one(&folder, which),
+        Task::Programs { folder, seed, count } => programs::compare::all(&folder, seed, count),
+        Task::Pair { folder, which } => programs::compare::one(&folder, which),
     }
 }

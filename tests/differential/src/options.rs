@@ -1,8 +1,8 @@
 //! The command line.
 
-use crate::case::Case;
-use crate::last::Which;
-use crate::replay;
+use crate::cases::case::Case;
+use crate::cases::last::Which;
+use crate::cases::replay;
 
 pub const USAGE: &str = "usage: differential [--seed S] [--long [COUNT]]
        differential [--seed S] --case I
@@ -89,7 +89,7 @@ pub fn read(arguments: &[String]) -> Result<Task, String> {
 #[cfg(test)]
 mod tests {
     use super::{read, Task, SEED};
-    use crate::last::Which;
+    use crate::cases::last::Which;
 
     fn task(line: &str) -> Result<Task, String> {
         read(&line.split_whitespace().map(String::from).collect::<Vec<_>>())

@@ -2,7 +2,7 @@
 use native.Mathlib.Omega.{arith}
 use borrow.Author.Needs.{needs}
 use Rattle.listing.proofs.Append.{shown-text}
-use Rattle.desk_call.proofs.Verdict.{refusal-printed, listing-printed, chart-formed, rule-shaped, few-marks}
+use Rattle.desk_call.proofs.Answer.{refusal-printed, listing-printed, chart-formed, rule-shaped, few-marks}
 use Rattle.desk_call.proofs.report.Statement.{statement}
 use Rattle.desk_call.proofs.report.Tie as tie
 

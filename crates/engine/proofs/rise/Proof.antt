@@ -7,20 +7,11 @@ use native.Mathlib.Omega.{arith}
 use denote.Ref.{now}
 use lib.ListN.{length}
 use borrow.Author.Tests.{leb-true, not-true, not-false}
-use Rattle.truth.proofs.Truth.{cond-elim}
+use Rattle.base.proofs.Truth.{cond-elim}
 use Rattle.hints.specs.Values.{values}
 use Rattle.visits.specs.Moves.{Given, Ready, left}
-use Rattle.engine.specs.Parts.{Still}
-use Rattle.engine.proofs.OnTheWay.{
-  OnTheWay,
-  hurried-fits,
-  still-kept,
-  way-none,
-  way-rest,
-  way-ran,
-  way-done,
-  way-next,
-}
+use Rattle.sweeps.specs.Sweep.{Still}
+use Rattle.engine.proofs.OnTheWay.{OnTheWay, hurried-fits, still-kept, way-none, way-rest, way-ran, way-done, way-next}
 use Rattle.engine.proofs.rise.Statement.{statement}
 use Rattle.engine.proofs.rise.Tie as tie
 

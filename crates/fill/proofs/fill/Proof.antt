@@ -5,18 +5,18 @@ use native.Mathlib.Omega.{arith}
 use native.Mathlib.Nat.{mul-le-mul-right}
 use lib.Dec.{eqb}
 use Rattle.model.specs.Marks.{mark}
-use Rattle.fill.specs.Fill.{mixOf}
-use Rattle.fill.specs.Parts.{Written}
+use Rattle.fill.specs.Fill.{combine}
+use Rattle.fill.specs.Written.{Written}
 use Rattle.fill.proofs.Written.{written-none, written-more, written-all, row-next}
 use Rattle.fill.proofs.fill.Statement.{statement}
 use Rattle.fill.proofs.fill.Tie as tie
 
 abbrev Inv-loop : tie.InvT-loop
-Inv-loop mix n t a b marks₀ at left right s₀ marks s =
-    (s ≤ n) × Written (t * n) s (λ v. mixOf mix (mark n marks₀ a v) (mark n marks₀ b v)) marks₀ marks
+Inv-loop connective n t a b marks₀ at left right s₀ marks s =
+    (s ≤ n) × Written (t * n) s (λ v. combine connective (mark n marks₀ a v) (mark n marks₀ b v)) marks₀ marks
 
 abbrev μ-loop : tie.MeasureT-loop
-μ-loop mix n t a b marks₀ at left right s₀ marks s = n - s
+μ-loop connective n t a b marks₀ at left right s₀ marks s = n - s
 
 -- the rows of both operands begin no later than row t
 operands :
@@ -56,7 +56,7 @@ loop-again c =
     let start = in-loop .before .before .before in
     let p = row-next (start .pre .1) (in-loop .loop-test .taken) w in
     let q = row-next (start .pre .2) (in-loop .loop-test .taken) w in
-    let e = c .mixed .ensures ∙ ap₂ (λ x y. mixOf (start .args .mix) (eqb x 1) (eqb y 1)) p q in
+    let e = c .combined .ensures ∙ ap₂ (λ x y. combine (start .args .connective) (eqb x 1) (eqb y 1)) p q in
     (omega arith, written-more w (omega arith) e)
 
 same-length : tie.Need-same-length Inv-loop μ-loop

@@ -4,7 +4,7 @@ use Prim.Native.Nat.{_*_, _≤_, _-_, _/_, _%_, _^_}
 use native.Mathlib.Omega.{arith}
 use lib.Dec.{eqb}
 use Rattle.chart.specs.Bytes.{labelWord}
-use Rattle.fill.specs.Parts.{Written}
+use Rattle.fill.specs.Written.{Written}
 use Rattle.fill.proofs.Written.{written-none, written-more, written-all}
 use Rattle.fill.proofs.fill_label.Statement.{statement}
 use Rattle.fill.proofs.fill_label.Tie as tie

@@ -1,19 +1,19 @@
 -- Any two marks are one of the four cases.
 use mathlib.Core.Bool.{Bool, true, false}
 use borrow.Author.Needs.{needs}
-use Rattle.fill.specs.declared.Base.{Base}
+use Rattle.fill.specs.declared.Initial.{Initial}
 use Rattle.fill.specs.declared.Four.{Four}
-use Rattle.fill.specs.Fill.{Based, oneOf, Foreseen}
+use Rattle.fill.specs.Fill.{Initially, oneOf, Foreseen}
 use Rattle.fill.proofs.four_of.Statement.{statement}
 use Rattle.fill.proofs.four_of.Tie as tie
 
 foreseen :
-    {base : Base} {four : Four} → Based base false false (four .neither) → Based base true false (four .first) →
-    Based base false true (four .second) → Based base true true (four .both) → Foreseen base four
+    {initial : Initial} {four : Four} → Initially initial false false (four .neither) → Initially initial true false (four .first) →
+    Initially initial false true (four .second) → Initially initial true true (four .both) → Foreseen initial four
 unfolding oneOf
-foreseen {base} {four} neither first second both = record { each = each }
+foreseen {initial} {four} neither first second both = record { each = each }
   where
-    each : (p q : Bool) → Based base p q (oneOf four p q)
+    each : (p q : Bool) → Initially initial p q (oneOf four p q)
     each false false = neither
     each true false = first
     each false true = second
@@ -23,7 +23,7 @@ returns : tie.Need-returns
 returns c =
     let third = c .before in
     let second = third .before in
-    foreseen (second .before .based .ensures) (second .based2 .ensures) (third .based3 .ensures) (c .based4 .ensures)
+    foreseen (second .before .initial-of .ensures) (second .initial-of2 .ensures) (third .initial-of3 .ensures) (c .initial-of4 .ensures)
 
 pub four-of-spec : {M : Type 1} → statement M
 four-of-spec =

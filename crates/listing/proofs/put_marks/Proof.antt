@@ -29,7 +29,7 @@ put-requires c κs =
     let start = at-loop .before .before .before in
     let loop = at-loop .loop in
     let below = c .before .before .before .loop-test .taken in
-    rw (c .before .mark .ensures) (joined-room _ (loop .s) (start .args .n) (loop .inv .1) below (start .pre .1))
+    rw (c .before .mark-digit .ensures) (joined-room _ (loop .s) (start .args .n) (loop .inv .1) below (start .pre .1))
 
 loop-again : tie.Need-loop-again Inv-loop μ-loop
 unfolding markLine
@@ -39,7 +39,7 @@ loop-again c =
     let at-loop = marked .before .before .before in (
       omega arith,
       joined-more _ (at-loop .loop .s) (at-loop .loop .inv .1)
-          (appended-text (ap (λ (b : ℕ). b ∷ []) (marked .mark .ensures)) (put .put .ensures)),
+          (appended-text (ap (λ (b : ℕ). b ∷ []) (marked .mark-digit .ensures)) (put .put .ensures)),
     )
 
 same-length : tie.Need-same-length Inv-loop μ-loop

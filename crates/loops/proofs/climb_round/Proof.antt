@@ -4,7 +4,7 @@ use Prim.Native.Nat.{ℕ, _≤_, _-_}
 use native.Mathlib.Omega.{arith}
 use denote.Ref.{now}
 use Rattle.chart.proofs.Reading.{shaped}
-use Rattle.loops.specs.Parts.{Climbed}
+use Rattle.loops.specs.Climbed.{Climbed}
 use Rattle.loops.proofs.Climb.{climb-size, climb-numbers}
 use Rattle.loops.proofs.Climbed.{climbed-none, climbed-more}
 use Rattle.loops.proofs.climb_round.Statement.{statement}

@@ -3,7 +3,7 @@ use mathlib.Core.List.{[], _∷_}
 use borrow.Author.Needs.{needs}
 use denote.Ref.{now}
 use Rattle.outcome.proofs.First.{part-refuses, part-passes}
-use Rattle.chart.specs.Parts.{arrowRows, stateRow}
+use Rattle.chart.specs.Rows.{arrowRows, stateRow}
 use Rattle.chart.proofs.refusals.body_refusal.Statement.{statement}
 use Rattle.chart.proofs.refusals.body_refusal.Tie as tie
 

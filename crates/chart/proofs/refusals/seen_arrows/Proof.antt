@@ -10,7 +10,7 @@ use borrow.Author.Count.{below-none, below-more}
 use borrow.Author.Needs.{needs}
 use borrow.Author.Tests.{leb-false}
 use denote.Ref.{now}
-use Rattle.truth.proofs.Truth.{or-false}
+use Rattle.base.proofs.Truth.{or-false}
 use Rattle.outcome.specs.declared.Outcome.{Outcome}
 use Rattle.outcome.specs.Refusal.{success, first}
 use Rattle.outcome.proofs.First.{part-refuses, part-passes}
@@ -18,7 +18,7 @@ use Rattle.outcome.proofs.Search.{search-found, search-ended}
 use Rattle.chart.specs.declared.ArrowWords.{ArrowWords}
 use Rattle.chart.specs.Bytes.{arrowWords}
 use Rattle.chart.specs.Refusals.{namesNoState}
-use Rattle.chart.specs.Parts.{endRow, slotRow, Leaves}
+use Rattle.chart.specs.Rows.{endRow, slotRow, Leaves}
 use Rattle.chart.proofs.Arrow.{arrow-inside}
 use Rattle.chart.proofs.Left.{left-none, left-put}
 use Rattle.chart.proofs.refusals.seen_arrows.Statement.{statement}

@@ -11,7 +11,7 @@ use Rattle.outcome.specs.Refusal.{refuse, orElse, lowest, first}
 use Rattle.outcome.proofs.Search.{search-found, search-passed, search-wider}
 use Rattle.chart.specs.Bytes.{arrowWords}
 use Rattle.chart.specs.Refusals.{emptySlot}
-use Rattle.chart.specs.Parts.{slotRow}
+use Rattle.chart.specs.Rows.{slotRow}
 use Rattle.chart.proofs.refusals.slot_refusal.Statement.{statement}
 use Rattle.chart.proofs.refusals.slot_refusal.Tie as tie
 

@@ -10,7 +10,7 @@ use borrow.Author.Needs.{needs}
 use Rattle.masks.specs.Member.{member}
 use Rattle.outcome.proofs.Search.{search-found, search-ended}
 use Rattle.chart.specs.Refusals.{leftBy}
-use Rattle.chart.specs.Parts.{Leaves}
+use Rattle.chart.specs.Rows.{Leaves}
 use Rattle.chart.proofs.refusals.state_refusal.Statement.{statement}
 use Rattle.chart.proofs.refusals.state_refusal.Tie as tie
 

@@ -7,8 +7,8 @@ use borrow.Author.Needs.{needs}
 use denote.Ref.{now}
 use Rattle.masks.proofs.Member.{member-none}
 use Rattle.rule.specs.Refusals.{usesIn, uses}
-use Rattle.rule.specs.Shape.{Operands}
-use Rattle.rule.specs.Parts.{Counted}
+use Rattle.rule.specs.Shape.{SmallOperands}
+use Rattle.rule.specs.Rows.{Counted}
 use Rattle.rule.proofs.Counted.{counted-same}
 use Rattle.rule.proofs.uses.used_nodes.Statement.{statement}
 use Rattle.rule.proofs.uses.used_nodes.Tie as tie
@@ -39,7 +39,7 @@ node-at-requires c κs = omega (arith, start (c .before) .pre .shape .whole)
 with-operands-requires : tie.Need-with-operands-requires Inv-loop μ-loop
 with-operands-requires c κs =
     let at = head c in
-    subst Operands (sym (c .node-at .ensures .0)) (start at .pre .operands (at .loop .t) (c .before .loop-test .taken))
+    subst SmallOperands (sym (c .node-at .ensures .0)) (start at .pre .operands (at .loop .t) (c .before .loop-test .taken))
 
 loop-again : tie.Need-loop-again Inv-loop μ-loop
 unfolding uses

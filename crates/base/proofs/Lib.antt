@@ -1,0 +1,6 @@
+pub mod Truth
+pub mod Compare
+pub mod Tabulate
+pub mod Every
+pub mod Sum
+pub mod Pigeonhole

@@ -1,0 +1,4 @@
+pub mod Tabulate
+pub mod Every
+pub mod Sum
+pub mod Yes

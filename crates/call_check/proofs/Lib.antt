@@ -1,0 +1,6 @@
+pub mod Chain
+pub mod Judgeable
+pub mod Marks
+pub mod Scratch
+pub mod Answers
+pub mod Promise

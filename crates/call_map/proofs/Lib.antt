@@ -1,0 +1,4 @@
+pub mod Tested
+pub mod Under
+pub mod Overview
+pub mod Chain

@@ -1,0 +1,36 @@
+-- What single tests say of an offender: of a label word, and of an arrow.
+use mathlib.Core.Path.{_≡_, sym, ap, _∙_}
+use mathlib.Core.Bool.{Bool, true, false, not}
+use mathlib.Core.List.{List}
+use Prim.Native.Nat.{ℕ}
+use borrow.Author.Tests.{eq-eqb, ne-eqb}
+use Rattle.chart.specs.declared.ArrowWords.{ArrowWords}
+use Rattle.chart.specs.Bytes.{labelWord, arrowWords, arrowOf}
+use Rattle.map.specs.Bytes.{entry}
+use Rattle.cover.specs.Covered.{covered}
+use Rattle.call_map.specs.Covered.{coveredAt}
+use Rattle.call_map.specs.Refusals.{labelsDiffer}
+
+-- ── Row 22: the words x and y, read of state v and of the state it stands for ──
+
+-- what comparing the words tells of the labels
+pub labels-told :
+    (d o p : List ℕ) (v : ℕ) {x y e : ℕ} → x ≡ labelWord d v → e ≡ entry p v → y ≡ labelWord o e →
+    (¬ (x ≡ y) → labelsDiffer d o p v ≡ true) × (x ≡ y → labelsDiffer d o p v ≡ false)
+labels-told d o p v own is other = (
+  λ h. ap not (ne-eqb _ _ (λ z. h (own ∙ z ∙ sym (other ∙ ap (labelWord o) is)))),
+  λ z. ap not (eq-eqb _ _ (sym own ∙ z ∙ other ∙ ap (labelWord o) is)),
+)
+
+-- ── Row 23: the detail arrow i ──
+
+-- the words w are read of arrow i, and the states of its ends of the map
+pub covered-read :
+    (d o p : List ℕ) (i : ℕ) {w : ArrowWords} {from to : ℕ} {r c : Bool} → w ≡ arrowWords d i →
+    from ≡ entry p (w .start) → to ≡ entry p (w .end) → r ≡ covered o from to (arrowOf w) → not r ≡ c →
+    not (coveredAt d o p i) ≡ c
+covered-read d o p i {w} {from} {to} e f g h k =
+    let left = ap (λ x. covered o x to (arrowOf w)) f in
+    let right = ap (λ x. covered o (entry p (w .start)) x (arrowOf w)) g in
+    let whole = ap (λ w. covered o (entry p (w .start)) (entry p (w .end)) (arrowOf w)) e in
+    ap not (sym (h ∙ left ∙ right ∙ whole)) ∙ k

@@ -1,6 +1,0 @@
-pub mod Chain
-pub mod Ready
-pub mod Marks
-pub mod Scratch
-pub mod Answers
-pub mod Promise

@@ -1,0 +1,38 @@
+-- The small inputs are answered with the number and the place that are listed: one computed test over each list.
+use mathlib.Core.Path.{_≡_, refl}
+use mathlib.Core.Bool.{true}
+use Rattle.base.specs.Tabulate.{tabulate}
+use Rattle.base.specs.Every.{every}
+use Rattle.model.specs.ZeroLoop.{leads}
+use Rattle.outcome.specs.Refusal.{lowest, first}
+use Rattle.chart.specs.Bytes.{arrowWords, chartOf}
+use Rattle.chart.specs.Refusals.{leftBy, chartTable}
+use Rattle.rule.specs.Bytes.{nodeWords}
+use Rattle.rule.specs.Form.{formOf}
+use Rattle.rule.specs.Refusals.{wrongKind, wrongA, malformed, notLower, usesIn, uses, ruleTable, ruleRefusal}
+use Rattle.loops.specs.Refusal.{loopRow, acceptedTable, acceptedRefusal}
+use Rattle.cover.specs.Covered.{covered}
+use Rattle.map.specs.Refusals.{noMap}
+use Rattle.call_map.specs.Refusals.{mapTable, mapCheckTable}
+use Rattle.call_check.specs.Check.{checkTable}
+use Rattle.claim_items.specs.SmallInputs.{charts, rules, maps, checks, asListed, mapAsListed, checkAsListed}
+
+pub charts-refused : every (asListed acceptedRefusal) charts ≡ true
+unfolding every charts acceptedTable chartTable loopRow arrowWords chartOf tabulate leads leftBy lowest first
+charts-refused = refl
+
+pub rules-refused : every (asListed ruleRefusal) rules ≡ true
+unfolding every rules ruleTable nodeWords formOf wrongKind wrongA malformed notLower usesIn uses lowest first
+rules-refused = refl
+
+pub maps-refused : every mapAsListed maps ≡ true
+unfolding
+    every maps mapCheckTable mapTable noMap covered acceptedTable chartTable loopRow arrowWords chartOf tabulate leads
+    leftBy lowest first
+maps-refused = refl
+
+pub checks-refused : every checkAsListed checks ≡ true
+unfolding
+    every checks checkTable chartTable loopRow arrowWords chartOf tabulate leads leftBy lowest first ruleTable nodeWords
+    formOf wrongKind wrongA malformed notLower usesIn uses
+checks-refused = refl

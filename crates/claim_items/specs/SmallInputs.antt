@@ -1,0 +1,175 @@
+-- The column "Small input" of 01's table, and inputs for what 01 says beside it, as "lowest
+-- state on one", "the same plus 40", "several joined don't count" and "'No end' contains every most".
+use mathlib.Core.Bool.{Bool, _&&_}
+use mathlib.Core.List.{List, [], _∷_, _++_}
+use Prim.Native.Nat.{ℕ, _+_, _/_}
+use lib.ListN.{length, take, replicate}
+use lib.Dec.{eqb}
+use Rattle.outcome.specs.declared.Outcome.{Outcome}
+use Rattle.call_map.specs.Refusals.{mapRefusal}
+use Rattle.call_check.specs.Check.{checkRefusal}
+use Rattle.claim_items.specs.Write.{word, arrow, chart, node, rule, map}
+use Rattle.claim_items.specs.Items.{short, trueUntil, A, atMost}
+
+-- bytes, and the number and the place that are answered: 0 and 0 if they are accepted
+pub record Refused : Type 0 where
+  pub bytes : List ℕ
+  pub number : ℕ
+  pub place : ℕ
+
+abbrev pub refused : ℕ → ℕ → List ℕ → Refused
+refused n p s = record { bytes = s; number = n; place = p }
+
+-- s with another first byte
+abbrev pub versioned : ℕ → List ℕ → List ℕ
+versioned v [] = []
+versioned v (b ∷ s) = v ∷ s
+
+-- Short with other arrows, of 8 bytes each, in place of its second
+abbrev pub shortWith : List ℕ → List ℕ
+shortWith a = chart 3 (length a / 8 + 2) (word 1 ++ word 2 ++ word 4) (arrow 0 1 5 10 ++ a ++ arrow 2 0 20 65535)
+
+unfoldable pub charts : List Refused
+charts =
+    -- Short is not refused
+    refused 0 0 short ∷
+    -- empty chart
+    refused 1 0 [] ∷
+    -- first byte 02
+    refused 2 0 (versioned 2 short) ∷
+    -- 39 stated, 40 lent
+    refused 3 0 (short ++ 0 ∷ []) ∷
+    -- n = 0
+    refused 4 0 (chart 0 1 [] (arrow 0 0 1 1)) ∷
+    -- m = 2,049
+    refused 5 0 (chart 1 2049 (word 0) (arrow 0 0 1 1)) ∷
+    -- n = 1, m = 1, 20 bytes
+    refused 6 0 (chart 1 1 (word 0) (arrow 0 0 1 1 ++ 0 ∷ [])) ∷
+    -- n = 3, end 3
+    refused 7 1 (shortWith (arrow 1 3 0 4)) ∷
+    -- slot 5 to 4
+    refused 8 1 (shortWith (arrow 1 2 5 4)) ∷
+    -- n = 2, one arrow 0 to 0
+    refused 9 1 (chart 2 1 (word 0 ++ word 0) (arrow 0 0 1 1)) ∷
+    -- arrow 0 to 0, slot 0 to 3
+    refused 19 0 (chart 1 1 (word 0) (arrow 0 0 0 3)) ∷
+    -- state 0 only leads to a loop of fewest 0
+    refused 19 1 (chart 2 2 (word 0 ++ word 0) (arrow 0 1 0 3 ++ arrow 1 1 0 3)) ∷
+    -- a loop that passes an arrow with fewest above 0 is not refused
+    refused 0 0 (chart 2 2 (word 0 ++ word 0) (arrow 0 1 0 3 ++ arrow 1 0 1 3)) ∷
+    []
+
+unfoldable pub rules : List Refused
+rules =
+    -- the rule of item 4 is not refused
+    refused 0 0 (trueUntil A 2 atMost 13) ∷
+    -- empty rule
+    refused 10 0 [] ∷
+    -- first byte 00
+    refused 11 0 (versioned 0 (trueUntil A 2 atMost 13)) ∷
+    -- 31 stated, 30 lent
+    refused 12 0 (take 30 (trueUntil A 2 atMost 13)) ∷
+    -- k = 65
+    refused 13 0 (rule 65 (node 0 0 0 0 0)) ∷
+    -- label 16
+    refused 14 1 (trueUntil A 16 atMost 13) ∷
+    -- node 0 = not 0
+    refused 15 0 (rule 1 (node 2 0 0 0 0)) ∷
+    -- node 1 = 0 and 0
+    refused 16 0 (rule 2 (node 0 0 0 0 0 ++ node 3 0 0 0 0)) ∷
+    []
+
+-- a detail chart, an overview and a map, and the number and the place that are answered
+pub record RefusedMap : Type 0 where
+  pub detail : List ℕ
+  pub overview : List ℕ
+  pub map : List ℕ
+  pub number : ℕ
+  pub place : ℕ
+
+abbrev pub refusedMap : ℕ → ℕ → List ℕ → List ℕ → List ℕ → RefusedMap
+refusedMap n p d o m = record { detail = d; overview = o; map = m; number = n; place = p }
+
+-- each of three states stands for itself
+abbrev pub itself : List ℕ
+itself = map 3 (word 0 ++ word 1 ++ word 2)
+
+-- Short with label word 1 at every state
+abbrev pub alike : List ℕ
+alike = chart 3 3 (word 1 ++ word 1 ++ word 1) (arrow 0 1 5 10 ++ arrow 1 2 0 4 ++ arrow 2 0 20 65535)
+
+unfoldable pub maps : List RefusedMap
+maps =
+    -- Short under Short is not refused
+    refusedMap 0 0 short short itself ∷
+    -- empty detail, empty overview: the detail is tested first
+    refusedMap 1 0 [] [] itself ∷
+    -- an empty overview is 41
+    refusedMap 41 0 short [] itself ∷
+    -- overview with a loop of fewest 0, at its state 1 alone
+    refusedMap 59 1 short (shortWith (arrow 1 1 0 4)) itself ∷
+    -- empty map
+    refusedMap 20 0 short short [] ∷
+    -- count 2, detail n = 3
+    refusedMap 20 0 short short (map 2 (word 0 ++ word 1)) ∷
+    -- entry 3, overview n = 3
+    refusedMap 21 1 short short (map 3 (word 0 ++ word 3 ++ word 2)) ∷
+    -- 1 against 2; state 2 differs too
+    refusedMap 22 1 alike short itself ∷
+    -- 4 to 9, overview only 5 to 10
+    refusedMap 23 1 (shortWith (arrow 1 2 4 9)) (shortWith (arrow 1 2 5 10)) itself ∷
+    -- 4 to 9, overview 4 to 6 and 7 to 9: several joined don't count
+    refusedMap 23 1 (shortWith (arrow 1 2 4 9)) (shortWith (arrow 1 2 4 6 ++ arrow 1 2 7 9)) itself ∷
+    -- 4 to no end, overview only 4 to 65,534
+    refusedMap 23 1 (shortWith (arrow 1 2 4 65535)) (shortWith (arrow 1 2 4 65534)) itself ∷
+    -- 4 to 9, overview 4 to no end: not refused
+    refusedMap 0 0 (shortWith (arrow 1 2 4 9)) (shortWith (arrow 1 2 4 65535)) itself ∷
+    []
+
+-- a chart, a rule, how many bytes and numbers are lent, and the number and the place that are answered
+pub record RefusedCheck : Type 0 where
+  pub chart : List ℕ
+  pub rule : List ℕ
+  pub marks : ℕ
+  pub scratch : ℕ
+  pub number : ℕ
+  pub place : ℕ
+
+abbrev pub refusedCheck : ℕ → ℕ → List ℕ → List ℕ → ℕ → ℕ → RefusedCheck
+refusedCheck n p g r marks scratch =
+    record { chart = g; rule = r; marks = marks; scratch = scratch; number = n; place = p }
+
+unfoldable pub checks : List RefusedCheck
+checks =
+    -- 01's listing, with just enough room, is not refused
+    refusedCheck 0 0 short (trueUntil A 2 atMost 13) 9 12 ∷
+    -- n = k = 3, 8 bytes
+    refusedCheck 17 0 short (trueUntil A 2 atMost 13) 8 12 ∷
+    -- n = 3, 11 numbers
+    refusedCheck 18 0 short (trueUntil A 2 atMost 13) 9 11 ∷
+    -- the chart is tested before the rule, the rule before the marks, the marks before scratch, scratch before 19
+    refusedCheck 1 0 [] [] 0 0 ∷
+    refusedCheck 10 0 (shortWith (arrow 1 1 0 4)) [] 0 0 ∷
+    refusedCheck 17 0 (shortWith (arrow 1 1 0 4)) (trueUntil A 2 atMost 13) 0 0 ∷
+    refusedCheck 18 0 (shortWith (arrow 1 1 0 4)) (trueUntil A 2 atMost 13) 9 0 ∷
+    refusedCheck 19 1 (shortWith (arrow 1 1 0 4)) (trueUntil A 2 atMost 13) 9 12 ∷
+    []
+
+-- ── As listed ──
+
+-- the outcome has the number n and the place p
+abbrev pub is : Outcome → ℕ → ℕ → Bool
+is r n p = eqb (r .number) n && eqb (r .place) p
+
+-- the refusal is the one that is listed
+abbrev pub asListed : (List ℕ → Outcome) → Refused → Bool
+asListed refusal x = is (refusal (x .bytes)) (x .number) (x .place)
+
+-- map check's refusal is the one that is listed
+abbrev pub mapAsListed : RefusedMap → Bool
+mapAsListed x = is (mapRefusal (x .detail) (x .overview) (x .map)) (x .number) (x .place)
+
+-- check's refusal is the one that is listed, where so many zeros are lent
+abbrev pub checkAsListed : RefusedCheck → Bool
+checkAsListed x =
+    is (checkRefusal (x .chart) (x .rule) (replicate (x .marks) 0) (replicate (x .scratch) 0)) (x .number) (x .place)

@@ -1,4 +1,0 @@
-pub mod Bytes
-pub mod Covered
-pub mod Refusals
-pub mod Parts

@@ -1,0 +1,42 @@
+-- Invariant: the marks before s are written.
+use mathlib.Core.Path.{ap, _∙_}
+use Prim.Native.Nat.{_*_, _≤_, _-_}
+use native.Mathlib.Omega.{arith}
+use Rattle.model.specs.Engine.{num}
+use Rattle.hints.specs.Values.{valueOf}
+use Rattle.fill.specs.Fill.{passesLimit}
+use Rattle.fill.specs.Written.{Written}
+use Rattle.fill.proofs.Written.{written-none, written-more, written-all}
+use Rattle.fill.proofs.fill_limit.Statement.{statement}
+use Rattle.fill.proofs.fill_limit.Tie as tie
+
+abbrev Inv-loop : tie.InvT-loop
+Inv-loop above limit n t numbers marks₀ at s₀ marks s =
+    (s ≤ n) × Written (t * n) s (λ v. passesLimit above limit (valueOf (num numbers v))) marks₀ marks
+
+abbrev μ-loop : tie.MeasureT-loop
+μ-loop above limit n t numbers marks₀ at s₀ marks s = n - s
+
+loop-holds : tie.Need-loop-holds Inv-loop μ-loop
+loop-holds c = (omega arith, written-none)
+
+loop-again : tie.Need-loop-again Inv-loop μ-loop
+loop-again c =
+    let read = c .before in
+    let at-loop = read .before .before .before in
+    let start = at-loop .before .before .before in
+    let e = ap (passesLimit (start .args .above) (start .args .limit)) (read .value .ensures) in
+    (omega arith, written-more (at-loop .loop .inv .1) (omega arith) (c .passes-limit .ensures ∙ e))
+
+same-length : tie.Need-same-length Inv-loop μ-loop
+same-length c = c .before .loop .inv .1 .size
+
+returns : tie.Need-returns Inv-loop μ-loop
+returns c = written-all (omega arith) (c .before .loop .inv .1)
+
+pub fill-limit-spec : {M : Type 1} → statement M
+fill-limit-spec =
+    tie.close
+    (tie.spec Inv-loop μ-loop (λ c. omega arith) loop-holds (λ c. omega arith) (λ c. omega arith) (λ c κs. tt)
+    (λ c κs. tt) (λ c. tt) (λ c. omega arith) (λ c. omega arith) (λ c. omega arith) (λ c. omega arith) loop-again
+    same-length returns)

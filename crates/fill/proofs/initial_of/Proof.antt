@@ -1,0 +1,60 @@
+-- The four bases.
+use mathlib.Core.Path.{subst}
+use Prim.Native.Nat.{_≤_}
+use native.Mathlib.Omega.{arith}
+use borrow.Author.Needs.{needs}
+use Rattle.ways.specs.Way.{highest}
+use Rattle.fill.specs.Fill.{capOf}
+use Rattle.fill.proofs.Choice.{either-le, placed-as}
+use Rattle.fill.proofs.initial_of.Statement.{statement}
+use Rattle.fill.proofs.initial_of.Tie as tie
+
+sub-either : tie.Need-sub-either
+sub-either c =
+    omega (arith, subst (λ b. capOf b ≤ highest) (c .before .initial .given .1) (c .before .before .before .pre))
+
+placed-requires : tie.Need-placed-requires
+placed-requires c κs = either-le (c .either .ensures) (omega arith) (omega arith)
+
+placed-requires-2 : tie.Need-placed-requires-2
+placed-requires-2 c κs = either-le (c .either2 .ensures) (omega arith) (omega arith)
+
+placed-requires-3 : tie.Need-placed-requires-3
+placed-requires-3 c κs =
+    let known = c .before .before in
+    let low = subst (λ b. capOf b ≤ highest) (known .initial3 .given .1) (known .before .before .pre) in
+    either-le (c .either3 .ensures) (omega arith) (omega (arith, low))
+
+sub-either-2 : tie.Need-sub-either-2
+sub-either-2 c =
+    omega (arith, subst (λ b. capOf b ≤ highest) (c .before .initial4 .given .1) (c .before .before .before .pre))
+
+placed-requires-4 : tie.Need-placed-requires-4
+placed-requires-4 c κs = either-le (c .either4 .ensures) (omega arith) (omega arith)
+
+returns : tie.Need-returns
+returns c =
+    let chose = c .before in
+    rw (chose .before .before .initial .given .1) (placed-as (c .placed .ensures) (chose .either .ensures .is))
+
+returns-2 : tie.Need-returns-2
+returns-2 c =
+    let chose = c .before in
+    rw (chose .before .before .initial2 .given .1) (placed-as (c .placed2 .ensures) (chose .either2 .ensures .is))
+
+returns-3 : tie.Need-returns-3
+returns-3 c =
+    let chose = c .before in
+    rw (chose .before .before .initial3 .given .1) (placed-as (c .placed3 .ensures) (chose .either3 .ensures .is))
+
+returns-4 : tie.Need-returns-4
+returns-4 c =
+    let chose = c .before in
+    rw (chose .before .before .initial4 .given .1) (placed-as (c .placed4 .ensures) (chose .either4 .ensures .is))
+
+pub initial-of-spec : {M : Type 1} → statement M
+initial-of-spec =
+    tie.close
+    (tie.spec (λ c. search needs) sub-either (λ c κs. search needs) placed-requires (λ c. search needs)
+    (λ c κs. search needs) placed-requires-2 (λ c. search needs) (λ c κs. search needs) placed-requires-3
+    (λ c. search needs) sub-either-2 (λ c κs. search needs) placed-requires-4 returns returns-2 returns-3 returns-4)

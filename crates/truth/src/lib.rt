@@ -1,1 +1,0 @@
-// Facts about truth values that the other crates' proofs share: proofs/ alone, no code.

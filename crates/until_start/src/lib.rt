@@ -1,0 +1,52 @@
+// The engine on an until: from the operands' marks, with row t lent to it meanwhile.
+ghost use mathlib.Core.Bool.{Bool};
+ghost use Prim.Native.Nat.{ℕ};
+ghost use Rattle.model.specs.Marks.{mark};
+ghost use Rattle.visits.specs.Moves.{Ready};
+ghost use Rattle.engine.specs.AsModel.{AsModel};
+ghost use Rattle.until_start.specs.Lent.{Lent, OperandsBelow, Able, Besides};
+ghost use Rattle.until_start.specs.Risen.{Suits, Risen};
+use fill::Initial;
+use rule::NodeWords;
+use ways::Way;
+
+// The engine, to which row t is lent and which leaves it as anything.
+pub fn run(
+    way: Way,
+    chart: &[u8],
+    n: usize,
+    m: usize,
+    t: usize,
+    marks: &mut [u8],
+    numbers: &mut [u32],
+)
+    requires { ⌜ Lent (now chart) n m t (now marks) (now numbers) × Able way (now numbers) ⌝ }
+    ensures { λ _. ⌜ Besides n t (now (marks .entry)) (now (marks .exit))
+        × ((go : ℕ → Bool) → Ready way go (now (numbers .entry)) →
+        AsModel way (now (chart .entry)) n go (now (numbers .entry)) (now (numbers .exit))) ⌝ }
+{
+    let at = t * n;
+    let end = at + n;
+    engine::settle(way, chart, n, m, &mut marks[at..end], numbers);
+}
+
+// The engine, from an initial of the operands' marks.
+pub fn run_from(
+    initial: Initial,
+    way: Way,
+    chart: &[u8],
+    n: usize,
+    m: usize,
+    t: usize,
+    node: NodeWords,
+    marks: &mut [u8],
+    numbers: &mut [u32],
+)
+    requires { ⌜ Lent (now chart) n m t (now marks) (now numbers) × OperandsBelow t node × Suits initial way ⌝ }
+    ensures { λ _. ⌜ Besides n t (now (marks .entry)) (now (marks .exit))
+        × Risen initial way (now (chart .entry)) n
+        (mark n (now (marks .entry)) (node .a)) (mark n (now (marks .entry)) (node .b)) (now (numbers .exit)) ⌝ }
+{
+    fill::fill_numbers(initial, n, node.a, node.b, marks, numbers);
+    run(way, chart, n, m, t, marks, numbers);
+}

@@ -1,0 +1,2 @@
+pub mod Sure
+pub mod NoneSure

@@ -1,0 +1,67 @@
+// A(a until b, at least c), c above 0, which two runs of the engine settle.
+ghost use Prim.Native.Nat.{_<_};
+ghost use Rattle.tctl.specs.Formula.{atLeast};
+ghost use Rattle.model.specs.Decide.{ask, plainRow, allRow};
+ghost use Rattle.model.specs.Marks.{mark};
+ghost use Rattle.chart.specs.Bytes.{chartOf};
+ghost use Rattle.fill.specs.Written.{RowWritten};
+ghost use Rattle.until_start.specs.Lent.{Lent, OperandsBelow};
+ghost use Rattle.until_twice.specs.Starts.{Starts};
+use fill::Initial;
+use rule::NodeWords;
+use ways::Way;
+
+// What A(a until b, at least c) starts from: c where a holds and every arrow leads to where the until with no bound
+// can't fail, else 0. Where that until holds nowhere, the answer is no and nothing else is told.
+fn sure_start(
+    chart: &[u8],
+    n: usize,
+    m: usize,
+    t: usize,
+    node: NodeWords,
+    marks: &mut [u8],
+    numbers: &mut [u32],
+) -> bool
+    requires { ⌜ Lent (now chart) n m t (now marks) (now numbers) × OperandsBelow t node × (node .c < 65536) ⌝ }
+    ensures { λ r. ⌜ RowWritten n t
+        (ask (plainRow (chartOf (now (chart .entry)) .arrows) n
+        (mark n (now (marks .entry)) (node .a)) (mark n (now (marks .entry)) (node .b))))
+        (now (marks .entry)) (now (marks .exit))
+        × Starts r (chartOf (now (chart .entry)) .arrows) n
+        (mark n (now (marks .entry)) (node .a)) (mark n (now (marks .entry)) (node .b)) (node .c)
+        (now (numbers .exit)) ⌝ }
+{
+    until_once::unhindered(true, n as u32, chart, n, m, t, node, marks, numbers);
+    let at = t * n;
+    let end = at + n;
+    if fill::all_are(0, &marks[at..end]) {
+        return false;
+    }
+    fill::fill_numbers(Initial::Stay(node.c), n, node.a, node.b, marks, numbers);
+    fill::clear_unsure(chart, n, m, &marks[at..end], numbers);
+    true
+}
+
+// A(a until b, at least c), c above 0: no run comes, before c minutes, to a state that isn't sure.
+pub fn all_at_least(
+    chart: &[u8],
+    n: usize,
+    m: usize,
+    t: usize,
+    node: NodeWords,
+    marks: &mut [u8],
+    numbers: &mut [u32],
+)
+    requires { ⌜ Lent (now chart) n m t (now marks) (now numbers) × OperandsBelow t node ⌝ }
+    requires { ⌜ (node .c < 65536) × (0 < node .c) ⌝ }
+    ensures { λ _. ⌜ RowWritten n t
+        (ask (allRow (chartOf (now (chart .entry)) .arrows) n (atLeast (node .c))
+        (mark n (now (marks .entry)) (node .a)) (mark n (now (marks .entry)) (node .b))))
+        (now (marks .entry)) (now (marks .exit)) ⌝ }
+{
+    if !sure_start(chart, n, m, t, node, marks, numbers) {
+        return;
+    }
+    until_start::run(Way::Lower, chart, n, m, t, marks, numbers);
+    fill::fill_limit(false, ways::TOP - node.c, n, t, numbers, marks);
+}

@@ -1,0 +1,2 @@
+pub mod Remarked
+pub mod Runs

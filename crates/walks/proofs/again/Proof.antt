@@ -1,0 +1,16 @@
+-- A pass on the way down.
+use borrow.Author.Needs.{needs}
+use Rattle.walks.proofs.Runs.{runs-none, runs-goes, runs-any}
+use Rattle.walks.proofs.again.Statement.{statement}
+use Rattle.walks.proofs.again.Tie as tie
+
+returns : tie.Need-returns
+returns c = runs-any _ _ _ _ _ (runs-goes _ _ _ _ _ (c .before .before .pass .ensures))
+
+returns-2 : tie.Need-returns-2
+returns-2 c = runs-none _ _ _ _ _
+
+pub again-spec : {M : Type 1} → statement M
+again-spec =
+    tie.close
+    (tie.spec (λ c. search needs) (λ c κs. search needs) (λ c. search needs) (λ c. search needs) returns returns-2)

@@ -1,0 +1,46 @@
+-- Passes, and a walk.
+use borrow.Author.Needs.{needs}
+use borrow.Author.Tests.{not-true}
+use Rattle.visits.proofs.Went.{given-still}
+use Rattle.walks.proofs.Runs.{runs-goes, runs-as, runs-both}
+use Rattle.walks.proofs.along.Statement.{statement}
+use Rattle.walks.proofs.along.Tie as tie
+
+-- the stops: after the passes, and the start
+abbrev second : tie.After-slice-known4 → tie.After-again
+second c = c .before .before
+
+abbrev first : tie.After-slice-known3 → tie.After-pass
+first c = c .before .before
+
+abbrev start : tie.After-pass → tie.Start
+start c = c .before .before .before .before .before
+
+again-requires : tie.Need-again-requires
+again-requires c κs = given-still (start (first (c .before .before)) .pre .0) (search needs)
+
+walk-requires : tie.Need-walk-requires
+walk-requires c κs =
+    let p = start (first (second (c .before .before .before) .before .before .before)) .pre in
+    (given-still (p .0) (search needs), p .1)
+
+returns : tie.Need-returns
+returns c = runs-as _ _ _ _ _ (not-true _ (c .if1 .taken)) (runs-goes _ _ _ _ _ (first (c .before) .pass .ensures))
+
+returns-2 : tie.Need-returns-2
+returns-2 c =
+    let q = second (c .before) in
+    runs-both _ _ _ _ _ _ (runs-goes _ _ _ _ _ (first (q .before .before .before) .pass .ensures)) (q .again .ensures)
+
+returns-3 : tie.Need-returns-3
+returns-3 c =
+    let w = c .before .before .before .before in
+    let q = second (w .before .before .before .before) in
+    runs-both _ _ _ _ _ _ (runs-both _ _ _ _ _ _ (runs-goes _ _ _ _ _ (first (q .before .before .before) .pass .ensures))
+    (q .again .ensures)) (w .walk .ensures)
+
+pub along-spec : {M : Type 1} → statement M
+along-spec =
+    tie.close
+    (tie.spec (λ c κs. search needs) (λ c. search needs) returns again-requires (λ c. search needs) returns-2 walk-requires
+    (λ c. search needs) (λ c. search needs) returns-3)

@@ -1,0 +1,52 @@
+-- Invariant: so far the numbers went their way.
+use mathlib.Core.Path.{_≡_}
+use mathlib.Core.Bool.{true}
+use Prim.Native.Nat.{_≤_}
+use native.Mathlib.Omega.{arith}
+use lib.ListN.{length}
+use Rattle.visits.proofs.Went.{given-still}
+use Rattle.walks.specs.Walk.{Runs}
+use Rattle.walks.proofs.Runs.{runs-none, runs-goes, runs-both}
+use Rattle.walks.proofs.back.Statement.{statement}
+use Rattle.walks.proofs.back.Tie as tie
+
+abbrev Inv-loop : tie.InvT-loop
+Inv-loop way chart n m count row numbers₀ k₀ numbers k =
+    (k ≤ n) × (length numbers ≡ n) × Runs way chart m true numbers₀ numbers
+
+abbrev μ-loop : tie.MeasureT-loop
+μ-loop way chart n m count row numbers₀ k₀ numbers k = k
+
+-- the stops: the loop's head, and the start
+abbrev head : tie.After-wide Inv-loop μ-loop → tie.At-loop Inv-loop μ-loop
+head c = c .before .before .before
+
+abbrev start : tie.At-loop Inv-loop μ-loop → tie.Start Inv-loop μ-loop
+start c = c .before .before .before .before
+
+loop-holds : tie.Need-loop-holds Inv-loop μ-loop
+loop-holds c = let p = c .before .before .before .pre in (p .2, p .0 .size, runs-none _ _ _ _ _)
+
+follow-requires : tie.Need-follow-requires Inv-loop μ-loop
+follow-requires c κs =
+    let test = c .before in
+    let at-loop = head (test .before) in
+    (given-still (start at-loop .pre .0) (at-loop .loop .inv .1), omega (arith, test .if1 .left))
+
+loop-again : tie.Need-loop-again Inv-loop μ-loop
+loop-again c =
+    let called = c .before .before in
+    let inv = head (called .before .before .before) .loop .inv in (
+      omega (arith, inv .0),
+      omega (arith, inv .1),
+      runs-both _ _ _ _ _ _ (inv .2) (runs-goes _ _ _ _ _ (called .follow .ensures)),
+    )
+
+pub back-spec : {M : Type 1} → statement M
+back-spec =
+    tie.close
+    (tie.spec Inv-loop μ-loop loop-holds (λ c. omega arith)
+    (λ c. omega (arith, c .before .before .loop .inv .0, start (c .before .before) .pre .1)) (λ c κs. tt)
+    (λ c. omega (arith, c .wide .ensures)) (λ c. omega (arith, head (c .before) .loop .inv .1, start (head (c .before)) .pre .0 .size))
+    (λ c. head (c .before) .loop .inv .2) follow-requires (λ c. omega arith) loop-again
+    (λ c. omega (arith, c .before .loop .inv .1, start (c .before) .pre .0 .size)) (λ c. c .before .loop .inv .2))

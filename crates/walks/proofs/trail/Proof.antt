@@ -1,0 +1,77 @@
+-- Invariant: the numbers changed at their marks alone, and the walk is at a state.
+use mathlib.Core.Path.{_≡_}
+use Prim.Native.Nat.{_≤_, _<_, _-_}
+use native.Mathlib.Omega.{arith}
+use lib.ListN.{length, length-set}
+use lib.Dec.{leb}
+use borrow.Author.Tests.{leb-false}
+use Rattle.base.proofs.Truth.{or-false}
+use Rattle.chart.proofs.Reading.{shaped}
+use Rattle.walks.specs.Walk.{Remarked}
+use Rattle.walks.proofs.Remarked.{marked-none, marked-set}
+use Rattle.walks.proofs.trail.Statement.{statement}
+use Rattle.walks.proofs.trail.Tie as tie
+
+abbrev Inv-loop : tie.InvT-loop
+Inv-loop seen chart n m from row₀ numbers₀ at₀ k₀ row numbers at k =
+    (k ≤ n) × (at < n) × (length row ≡ n) × (length numbers ≡ n) × Remarked numbers₀ numbers
+
+abbrev μ-loop : tie.MeasureT-loop
+μ-loop seen chart n m from row₀ numbers₀ at₀ k₀ row numbers at k = n - k
+
+-- the stops: the loop's head, and the start
+abbrev head : tie.After-ends Inv-loop μ-loop → tie.At-loop Inv-loop μ-loop
+head c = c .before .before .before .before
+
+abbrev start : tie.At-loop Inv-loop μ-loop → tie.Start Inv-loop μ-loop
+start c = c .before .before .before .before
+
+loop-holds : tie.Need-loop-holds Inv-loop μ-loop
+loop-holds c = let p = c .before .before .before .pre in (omega arith, p .3, p .2, p .1, marked-none)
+
+-- the walk's state has a number
+at-state : (c : tie.At-loop Inv-loop μ-loop) → (c .loop .at < length (c .loop .numbers)) × (c .loop .at < 256)
+at-state c =
+    let inv = c .loop .inv in
+    (omega (arith, inv .1, inv .3), omega (arith, inv .1, shaped (start c .pre .0) .few-states))
+
+returns : tie.Need-returns Inv-loop μ-loop
+returns c = let inv = head (c .before) .loop .inv in (inv .4, inv .1, inv .0)
+
+cast-row : tie.Need-cast-row Inv-loop μ-loop
+cast-row c =
+    let at-loop = head (c .before .before) in
+    omega (arith, at-loop .loop .inv .1, shaped (start at-loop .pre .0) .few-states)
+
+arrow-requires : tie.Need-arrow-requires Inv-loop μ-loop
+arrow-requires c κs =
+    let test = c .before in
+    let ended = test .before in
+    let p = start (head ended) .pre in
+    let m = start (head ended) .args .m in
+    let i = ended .before .hint .result in
+    (p .0, leb-false m i (or-false (ended .ends .result) (leb m i) (test .if1 .left) .1))
+
+loop-again : tie.Need-loop-again Inv-loop μ-loop
+loop-again c =
+    let turned = c .before in
+    let at-loop = head (turned .before .before) in
+    let inv = at-loop .loop .inv in (
+      omega arith,
+      c .arrow .ensures .1 .end,
+      simp length-set (inv .2),
+      simp length-set (inv .3),
+      marked-set (inv .4) (at-loop .loop .at) (turned .turned .result) (turned .turned .ensures),
+    )
+
+pub trail-spec : {M : Type 1} → statement M
+trail-spec =
+    tie.close
+    (tie.spec Inv-loop μ-loop loop-holds (λ c. omega (arith, at-state (c .before))) (λ c. omega (arith, at-state (c .before .before)))
+    (λ c κs. tt) (λ c κs. tt) (λ c. omega (arith, head (c .before) .loop .inv .2, start (head (c .before)) .pre .2))
+    (λ c. omega (arith, head (c .before) .loop .inv .3, start (head (c .before)) .pre .1)) returns (λ c κs. tt)
+    (λ c. omega (arith, at-state (head (c .before .before)))) (λ c. omega (arith, at-state (head (c .before .before)))) cast-row
+    (λ c. omega (arith, head (c .before .before) .loop .inv .2)) arrow-requires (λ c. omega arith)
+    (λ c. omega arith) loop-again (λ c. omega (arith, c .before .loop .inv .2, start (c .before) .pre .2))
+    (λ c. omega (arith, c .before .loop .inv .3, start (c .before) .pre .1))
+    (λ c. let inv = c .before .loop .inv in (inv .4, inv .1, inv .0)))

@@ -1,0 +1,4 @@
+//! The bytes of charts and rules.
+
+pub mod chart;
+pub mod rule;

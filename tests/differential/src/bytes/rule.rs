@@ -1,0 +1,46 @@
+//! Rules: nodes and their bytes.
+
+use crate::bytes::chart::framed;
+
+pub const TRUE: u8 = 0;
+pub const LABEL: u8 = 1;
+pub const NOT: u8 = 2;
+pub const AND: u8 = 3;
+pub const OR: u8 = 4;
+pub const E: u8 = 5;
+pub const A: u8 = 6;
+
+#[derive(Clone, Copy, Debug, PartialEq, Eq)]
+pub struct Node {
+    pub operation: u8,
+    pub kind: u8,
+    pub a: u16,
+    pub b: u16,
+    pub c: u16,
+}
+
+pub fn node(operation: u8, kind: u8, a: usize, b: usize, c: usize) -> Node {
+    Node { operation, kind, a: a as u16, b: b as u16, c: c as u16 }
+}
+
+pub fn plain(operation: u8, a: usize, b: usize) -> Node {
+    node(operation, 0, a, b, 0)
+}
+
+impl Node {
+    pub fn operands(&self) -> usize {
+        match self.operation {
+            NOT => 1,
+            AND | OR | E | A => 2,
+            _ => 0,
+        }
+    }
+}
+
+pub fn bytes(nodes: &[Node]) -> Vec<u8> {
+    let mut words = vec![nodes.len() as u16];
+    for x in nodes {
+        words.extend([u16::from_be_bytes([x.operation, x.kind]), x.a, x.b, x.c]);
+    }
+    framed(&words)
+}

@@ -1,0 +1,140 @@
+//! Runs a case on both programs and says whether the answers agree.
+
+use std::panic::{catch_unwind, AssertUnwindSafe};
+
+use crate::cases::case::{Case, Table};
+
+#[derive(Clone, Copy, Debug, PartialEq, Eq)]
+pub enum Kind {
+    AllRuns,
+    SomeRun,
+    Both,
+    Neither,
+}
+
+/// Where a part lies in the chosen table; an empty part may lie anywhere in it.
+#[derive(Clone, Debug, PartialEq, Eq)]
+pub enum Part {
+    Empty,
+    At { offset: usize, bytes: Vec<u8> },
+    Elsewhere { bytes: Vec<u8> },
+}
+
+#[derive(Clone, Debug, PartialEq, Eq)]
+pub enum Answer {
+    Check { number: u32, place: u32, marks: Vec<u8>, scratch: Vec<u32>, arrows: Vec<[u64; 4]> },
+    Kind { number: u32, place: u32, kind: Kind },
+    Map { number: u32, place: u32 },
+    Row(Part),
+    Stopped,
+}
+
+impl Answer {
+    /// Number and place; a row has none.
+    pub fn outcome(&self) -> Option<(u32, u32)> {
+        match *self {
+            Answer::Check { number, place, .. } => Some((number, place)),
+            Answer::Kind { number, place, .. } => Some((number, place)),
+            Answer::Map { number, place } => Some((number, place)),
+            Answer::Row(_) | Answer::Stopped => None,
+        }
+    }
+}
+
+/// Judges by address, since a copy would have the same content.
+fn part_of(table: &[u8], part: &[u8]) -> Part {
+    let start = table.as_ptr() as usize;
+    let at = part.as_ptr() as usize;
+    let bytes = part.to_vec();
+    if at < start || at - start > table.len() || part.len() > table.len() - (at - start) {
+        return Part::Elsewhere { bytes };
+    }
+    if part.is_empty() {
+        return Part::Empty;
+    }
+    Part::At { offset: at - start, bytes }
+}
+
+/// The same five calls of either program, each with its own types.
+macro_rules! program {
+    ($name:ident) => {
+        pub mod $name {
+            use super::{part_of, Answer, Case, Kind, Table};
+            use ::$name as program;
+
+            fn kind_of(rule: &[u8]) -> Answer {
+                let answer = program::kind_of_rule(rule);
+                let kind = match answer.kind {
+                    program::Kind::AllRuns => Kind::AllRuns,
+                    program::Kind::SomeRun => Kind::SomeRun,
+                    program::Kind::Both => Kind::Both,
+                    program::Kind::Neither => Kind::Neither,
+                };
+                Answer::Kind { number: answer.outcome.number, place: answer.outcome.place, kind }
+            }
+
+            fn arrow(chart: &[u8], number: usize) -> Option<[u64; 4]> {
+                program::arrow(chart, number).map(|a| [a.start as u64, a.end as u64, a.fewest as u64, a.most as u64])
+            }
+
+            /// The chart's arrows as a reader hands them out, until it is finished, and what it still finds later.
+            fn arrows(chart: &[u8]) -> Vec<[u64; 4]> {
+                let mut read: Vec<_> = (0..).map_while(|i| arrow(chart, i)).collect();
+                let count = read.len();
+                read.extend([count, count + 1, usize::MAX].into_iter().filter_map(|i| arrow(chart, i)));
+                read
+            }
+
+            fn row(tables: (&[u8], &[u8]), choice: Table, n: usize, t: usize) -> Answer {
+                let (overview, detail) = tables;
+                let (table, choice) = match choice {
+                    Table::Overview => (overview, program::Choice::Overview),
+                    Table::Detail => (detail, program::Choice::Detail),
+                };
+                Answer::Row(part_of(table, program::row(overview, detail, choice, n, t)))
+            }
+
+            pub fn run(case: &Case) -> Answer {
+                match case {
+                    Case::Check { chart, rule, marks, scratch } => {
+                        let (mut marks, mut scratch) = (marks.bytes(), scratch.numbers());
+                        let outcome = program::check(chart, rule, &mut marks, &mut scratch);
+                        let (number, place) = (outcome.number, outcome.place);
+                        Answer::Check { number, place, marks, scratch, arrows: arrows(chart) }
+                    }
+                    Case::Kind { rule } => kind_of(rule),
+                    Case::Map { detail, overview, map } => {
+                        let outcome = program::map_check(detail, overview, map);
+                        Answer::Map { number: outcome.number, place: outcome.place }
+                    }
+                    Case::Row { overview, detail, choice, n, t } => row((overview, detail), *choice, *n, *t),
+                }
+            }
+        }
+    };
+}
+
+program!(doilystrand);
+program!(oracle);
+
+/// The answers of the library and of the oracle.
+pub struct Both {
+    pub library: Answer,
+    pub oracle: Answer,
+}
+
+/// A panic is an answer too, and a wrong one. A crash or a call without end is not caught: `last` tells its case.
+fn guarded(run: fn(&Case) -> Answer, case: &Case) -> Answer {
+    catch_unwind(AssertUnwindSafe(|| run(case))).unwrap_or(Answer::Stopped)
+}
+
+pub fn both(case: &Case) -> Both {
+    Both { library: guarded(doilystrand::run, case), oracle: guarded(oracle::run, case) }
+}
+
+impl Both {
+    pub fn agree(&self) -> bool {
+        let wrong = |x: &Answer| matches!(x, Answer::Stopped | Answer::Row(Part::Elsewhere { .. }));
+        !wrong(&self.library) && self.library == self.oracle
+    }
+}

@@ -1,0 +1,7 @@
+//! The calls of the library and of the oracle on the same cases.
+
+pub mod compare;
+pub mod promises;
+pub mod report;
+pub mod run;
+pub mod summary;

@@ -1,0 +1,135 @@
+//! The run: named cases first, then random ones; or one case alone.
+
+use std::time::Instant;
+
+use crate::cases::case::Case;
+use crate::calls::compare::{both, Both};
+use crate::random::generate;
+use crate::named::items;
+use crate::named::large;
+use crate::cases::last::{Last, Which};
+use crate::named::expected::Named;
+use crate::calls::promises;
+use crate::calls::report::{self, say};
+use crate::calls::summary::Summary;
+use crate::named::charts;
+use crate::named::maps;
+use crate::named::rules;
+
+/// The run stops after so many differences.
+pub const SHOWN: u64 = 5;
+
+/// The large ones come last, since they take longest.
+fn named() -> Vec<Named> {
+    let mut list = Vec::new();
+    items::all(&mut list);
+    charts::all(&mut list);
+    rules::all(&mut list);
+    maps::all(&mut list);
+    large::all(&mut list);
+    list
+}
+
+/// What is wrong with a case's answers, if anything is.
+fn difference(case: &Case, answers: &Both) -> Option<String> {
+    if !answers.agree() {
+        return Some("the answers differ".into());
+    }
+    let sides = [("the library", &answers.library), ("the oracle", &answers.oracle)];
+    sides.iter().find_map(|(name, answer)| promises::broken(case, answer).map(|what| format!("{name}: {what}")))
+}
+
+fn against_paper(case: &Named, answers: &Both) -> Option<String> {
+    let sides = [("the library", &answers.library), ("the oracle", &answers.oracle)];
+    let wrong = sides.iter().find(|(_, answer)| !case.met(answer))?;
+    Some(format!("{} differs from the paper, which says {:?}", wrong.0, case.expected))
+}
+
+struct Run {
+    summary: Summary,
+    differ: u64,
+    last: Last,
+}
+
+impl Run {
+    fn full(&self) -> bool {
+        self.differ >= SHOWN
+    }
+
+    fn note(&mut self, name: &str, case: &Case, answers: &Both, what: Option<String>) {
+        if let Some(what) = what {
+            self.differ += 1;
+            report::difference(name, case, answers, &what);
+        }
+    }
+
+    fn named_cases(&mut self) {
+        for (number, test) in (0..).zip(&named()) {
+            if self.full() {
+                return;
+            }
+            self.last.keep(Which::Named(number));
+            let answers = both(&test.case);
+            let what = difference(&test.case, &answers).or_else(|| against_paper(test, &answers));
+            self.summary.add(&test.case, &answers.oracle, false);
+            self.note(&format!("named case {number}, {}", test.name), &test.case, &answers, what);
+        }
+    }
+
+    fn random_cases(&mut self, seed: u64, count: u64) {
+        for number in 0..count {
+            if self.full() {
+                return;
+            }
+            let case = generate::random(seed, number);
+            self.last.keep(Which::Random { seed, number });
+            let answers = both(&case);
+            let what = difference(&case, &answers);
+            self.summary.add(&case, &answers.oracle, true);
+            self.note(&format!("case {number} of seed {seed}"), &case, &answers, what);
+        }
+    }
+}
+
+/// Runs all cases; true if none differs and every number was met.
+pub fn all(last: Last, seed: u64, count: u64) -> bool {
+    let began = Instant::now();
+    let mut run = Run { summary: Summary::new(), differ: 0, last };
+    run.named_cases();
+    run.random_cases(seed, count);
+    if run.full() {
+        say(&format!("stopped after {SHOWN} differences"));
+    }
+    say(run.summary.text().trim_end());
+    let missing = if run.differ == 0 { run.summary.missing() } else { Vec::new() };
+    for what in &missing {
+        say(&format!("NEVER MET: {what}"));
+    }
+    say(&format!("seed {seed}, {:.1} s", began.elapsed().as_secs_f64()));
+    say(&format!("differential: {} cases, {} differ", run.summary.total(), run.differ));
+    run.differ == 0 && missing.is_empty()
+}
+
+/// Runs the case of that number alone.
+pub fn one(mut last: Last, which: Which) -> Result<bool, String> {
+    let case = match which {
+        Which::Random { seed, number } => generate::random(seed, number),
+        Which::Named(number) => {
+            let (list, at) = (named(), usize::try_from(number).unwrap_or(usize::MAX));
+            let test = list.get(at).ok_or(format!("--named {number}: the last is {}", list.len() - 1))?;
+            say(&test.name);
+            test.case.clone()
+        }
+    };
+    last.keep(which);
+    Ok(alone(&case))
+}
+
+/// Runs one case and prints both answers in full. If it is among the named ones, it is held to their answers too.
+pub fn alone(case: &Case) -> bool {
+    let answers = both(case);
+    let as_named = || named().iter().filter(|test| test.case == *case).find_map(|test| against_paper(test, &answers));
+    let what = difference(case, &answers).or_else(as_named);
+    report::whole(case, &answers, what.as_deref());
+    what.is_none()
+}

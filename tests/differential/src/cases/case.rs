@@ -1,0 +1,54 @@
+//! One case: a call and everything that is lent to it.
+
+use crate::random::rng::Rng;
+
+/// A buffer that is lent for writing: its length and the number its content is made from.
+#[derive(Clone, Copy, Debug, PartialEq, Eq)]
+pub struct Lent {
+    pub length: usize,
+    pub fill: u64,
+}
+
+#[derive(Clone, Copy, Debug, PartialEq, Eq)]
+pub enum Table {
+    Overview,
+    Detail,
+}
+
+#[derive(Clone, Debug, PartialEq, Eq)]
+pub enum Case {
+    Check { chart: Vec<u8>, rule: Vec<u8>, marks: Lent, scratch: Lent },
+    Kind { rule: Vec<u8> },
+    Map { detail: Vec<u8>, overview: Vec<u8>, map: Vec<u8> },
+    Row { overview: Vec<u8>, detail: Vec<u8>, choice: Table, n: usize, t: usize },
+}
+
+pub const CALLS: [&str; 4] = ["check", "kind", "map", "row"];
+
+impl Lent {
+    pub fn new(length: usize, fill: u64) -> Lent {
+        Lent { length, fill }
+    }
+
+    pub fn bytes(&self) -> Vec<u8> {
+        let mut rng = Rng::new(self.fill);
+        (0..self.length).map(|_| rng.next() as u8).collect()
+    }
+
+    pub fn numbers(&self) -> Vec<u32> {
+        let mut rng = Rng::new(self.fill);
+        (0..self.length).map(|_| rng.next() as u32).collect()
+    }
+}
+
+impl Case {
+    /// The place of the call in `CALLS`.
+    pub fn call(&self) -> usize {
+        match self {
+            Case::Check { .. } => 0,
+            Case::Kind { .. } => 1,
+            Case::Map { .. } => 2,
+            Case::Row { .. } => 3,
+        }
+    }
+}

@@ -1,0 +1,192 @@
+//! Rows 1 to 9 and 17 to 19 of the refusal table, each with the neighbour that passes;
+//! the order of rows.
+
+use crate::cases::case::Case;
+use crate::bytes::chart::{arrow, Arrow, Chart, NO_END};
+use crate::random::damage::restate;
+use crate::named::expected::*;
+use crate::bytes::rule::{self, node, plain, A, LABEL, NOT, TRUE};
+
+pub type List = Vec<Named>;
+
+/// A chart in check, then as the detail and as the overview of a map check.
+fn chart_row(list: &mut List, name: &str, chart: Vec<u8>, number: u32, place: u32) {
+    let n = chart.get(5..7).map_or(0, |two| u16::from_be_bytes([two[0], two[1]]) as usize);
+    let as_check = check(chart.clone(), rule::bytes(&just_true()), n, 4 * n);
+    add(list, &format!("{name}, check"), as_check, Expected::Outcome(number, place));
+    let as_detail = map(chart.clone(), chart.clone(), identity(n));
+    add(list, &format!("{name}, detail"), as_detail, Expected::Outcome(number, place));
+    if number != 0 {
+        let as_overview = map(one().bytes(), chart, identity(1));
+        let expected = Expected::Outcome(number + 40, place);
+        add(list, &format!("{name}, overview"), as_overview, expected);
+    }
+}
+
+pub fn with_first(mut bytes: Vec<u8>, first: u8) -> Vec<u8> {
+    bytes[0] = first;
+    bytes
+}
+
+/// Of another length, which the bytes state or, if not `restated`, don't.
+pub fn resized(mut bytes: Vec<u8>, length: usize, restated: bool) -> Vec<u8> {
+    bytes.resize(length, 0);
+    if restated {
+        restate(&mut bytes);
+    }
+    bytes
+}
+
+fn chart_frame(list: &mut List) {
+    let (short, one) = (short().bytes(), one().bytes());
+    chart_row(list, "row 1: empty chart", vec![], 1, 0);
+    chart_row(list, "row 1: 8 bytes", resized(one.clone(), 8, false), 1, 0);
+    chart_row(list, "row 1 passed: 9 bytes of 19", resized(one.clone(), 9, false), 3, 0);
+    chart_row(list, "row 1 passed: 19 bytes", one.clone(), 0, 0);
+    for version in [0, 2, 255] {
+        chart_row(list, "row 2: version not 1", with_first(short.clone(), version), 2, 0);
+    }
+    chart_row(list, "row 2 passed: first byte 01", with_first(short.clone(), 1), 0, 0);
+    chart_row(list, "row 3: 39 stated, 40 lent", resized(short.clone(), 40, false), 3, 0);
+    chart_row(list, "row 3: 39 stated, 38 lent", resized(short.clone(), 38, false), 3, 0);
+    let mut far = short.clone();
+    far[2] = 1;
+    chart_row(list, "row 3: 65,575 stated, 39 lent", far, 3, 0);
+    chart_row(list, "row 3 passed: 39 stated, 39 lent", short, 0, 0);
+    chart_row(list, "row 6: n = 1, m = 1, 20 bytes", resized(one.clone(), 20, true), 6, 0);
+    chart_row(list, "row 6: n = 1, m = 1, 18 bytes", resized(one.clone(), 18, true), 6, 0);
+    chart_row(list, "row 6: 9 bytes", resized(one, 9, true), 6, 0);
+}
+
+fn chart_counts(list: &mut List) {
+    chart_row(list, "row 4: n = 0", loops(0, 1).bytes(), 4, 0);
+    chart_row(list, "row 4 passed: n = 1", loops(1, 1).bytes(), 0, 0);
+    chart_row(list, "row 4 passed: n = 256", loops(256, 256).bytes(), 0, 0);
+    chart_row(list, "row 4: n = 257", loops(257, 257).bytes(), 4, 0);
+    chart_row(list, "row 5: m = 0", loops(1, 0).bytes(), 5, 0);
+    chart_row(list, "row 5 passed: m = 1", loops(1, 1).bytes(), 0, 0);
+    chart_row(list, "row 5 passed: m = 2,048", loops(1, 2_048).bytes(), 0, 0);
+    chart_row(list, "row 5: m = 2,049", loops(1, 2_049).bytes(), 5, 0);
+    chart_row(list, "longest chart", loops(256, 2_048).bytes(), 0, 0);
+}
+
+/// Short with one arrow changed.
+fn short_with(at: usize, change: Arrow) -> Vec<u8> {
+    let mut chart = short();
+    chart.arrows[at] = change;
+    chart.bytes()
+}
+
+fn chart_arrows(list: &mut List) {
+    chart_row(list, "row 7: n = 3, end 3", short_with(1, arrow(1, 3, 0, 4)), 7, 1);
+    chart_row(list, "row 7 passed: end 2", short_with(1, arrow(1, 2, 0, 4)), 0, 0);
+    chart_row(list, "row 7: n = 3, start 3", short_with(2, arrow(3, 0, 20, 20)), 7, 2);
+    chart_row(list, "row 7: end 65,535", short_with(0, arrow(0, 65_535, 5, 10)), 7, 0);
+    chart_row(list, "row 8: slot 5 to 4", short_with(0, arrow(0, 1, 5, 4)), 8, 0);
+    chart_row(list, "row 8 passed: slot 5 to 5", short_with(0, arrow(0, 1, 5, 5)), 0, 0);
+    chart_row(list, "row 8: fewest 65,535", short_with(2, arrow(2, 0, NO_END, NO_END)), 8, 2);
+    chart_row(list, "row 8 passed: 65,534 to no end", short_with(2, arrow(2, 0, 65_534, NO_END)), 0, 0);
+    chart_row(list, "row 8 passed: 65,534 twice", short_with(2, arrow(2, 0, 65_534, 65_534)), 0, 0);
+    let mut bare = Chart { labels: vec![0, 0], arrows: vec![arrow(0, 0, 1, 1)] };
+    chart_row(list, "row 9: n = 2, one arrow 0 to 0", bare.bytes(), 9, 1);
+    bare.arrows.push(arrow(1, 0, 1, 1));
+    chart_row(list, "row 9 passed: an arrow 1 to 0 too", bare.bytes(), 0, 0);
+    bare.arrows.remove(0);
+    chart_row(list, "row 9: n = 2, one arrow 1 to 0", bare.bytes(), 9, 0);
+}
+
+fn zero_loops(list: &mut List) {
+    let single = |fewest| Chart { labels: vec![0], arrows: vec![arrow(0, 0, fewest, 3)] }.bytes();
+    chart_row(list, "row 19: arrow 0 to 0, slot 0 to 3", single(0), 19, 0);
+    chart_row(list, "row 19 passed: slot 1 to 3", single(1), 0, 0);
+    let ring = |last| {
+        let arrows = vec![arrow(0, 2, 0, 0), arrow(2, 1, 0, 5), arrow(1, 2, last, NO_END)];
+        Chart { labels: vec![0; 3], arrows }.bytes()
+    };
+    chart_row(list, "row 19: lowest state on a loop is 1", ring(0), 19, 1);
+    chart_row(list, "row 19 passed: one fewest is 1", ring(1), 0, 0);
+}
+
+/// A check of Short with a three-node rule, given the lengths of marks and scratch.
+fn lent_lengths(marks: usize, scratch: usize, zero_loop: bool) -> Case {
+    let mut chart = short();
+    if zero_loop {
+        chart.arrows.push(arrow(1, 1, 0, 0));
+    }
+    let nodes = [plain(TRUE, 0, 0), plain(LABEL, 2, 0), node(A, 1, 0, 1, 13)];
+    check(chart.bytes(), rule::bytes(&nodes), marks, scratch)
+}
+
+fn buffers(list: &mut List) {
+    let mut test = |name: &str, marks, scratch, zero_loop, number, place| {
+        let case = lent_lengths(marks, scratch, zero_loop);
+        add(list, name, case, Expected::Outcome(number, place));
+    };
+    test("row 17: n = k = 3, 8 bytes", 8, 12, false, 17, 0);
+    test("row 17: no marks", 0, 12, false, 17, 0);
+    test("row 17 passed: 9 bytes", 9, 12, false, 0, 0);
+    test("row 17 passed: 10 bytes", 10, 12, false, 0, 0);
+    test("row 18: n = 3, 11 numbers", 9, 11, false, 18, 0);
+    test("row 18: no scratch", 9, 0, false, 18, 0);
+    test("row 18 passed: 12 numbers", 9, 12, false, 0, 0);
+    test("row 18 passed: 13 numbers", 9, 13, false, 0, 0);
+    test("17 goes before 18 and 19", 8, 11, true, 17, 0);
+    test("18 goes before 19", 9, 11, true, 18, 0);
+    test("19 with longer buffers", 20, 30, true, 19, 1);
+}
+
+/// One state with the given label word and arrows to itself with the given slots.
+pub fn single(label: u16, slots: &[(u16, u16)]) -> Vec<u8> {
+    let arrows = slots.iter().map(|&(fewest, most)| arrow(0, 0, fewest, most)).collect();
+    Chart { labels: vec![label], arrows }.bytes()
+}
+
+/// Two offenders against one row: the lowest is named.
+fn lowest(list: &mut List) {
+    let with = |change: &dyn Fn(&mut Arrow)| {
+        let mut chart = short();
+        chart.arrows[1..].iter_mut().for_each(change);
+        chart.bytes()
+    };
+    chart_row(list, "row 7: arrows 1 and 2", with(&|a| a.end = 3), 7, 1);
+    chart_row(list, "row 8: arrows 1 and 2", with(&|a| (a.fewest, a.most) = (5, 4)), 8, 1);
+    chart_row(list, "row 9: states 1 and 2", with(&|a| a.start = 0), 9, 1);
+    let zero = with(&|a| (a.start, a.end, a.fewest) = (a.start, a.start, 0));
+    let mut bare = zero.clone();
+    bare.splice(15..17, [0, 1]);
+    chart_row(list, "row 9: state 0, beside loops of fewest 0", bare, 9, 0);
+    chart_row(list, "row 19: states 1 and 2", zero, 19, 1);
+}
+
+/// Inputs that meet the conditions of two rows at once.
+fn order(list: &mut List) {
+    let bare = || Chart { labels: vec![0, 0], arrows: vec![arrow(0, 0, 0, 0)] }.bytes();
+    add(list, "9 before 10", check(bare(), vec![], 0, 0), Expected::Outcome(9, 1));
+    let unused = rule::bytes(&[plain(TRUE, 0, 0), plain(TRUE, 0, 0)]);
+    add(list, "16 before 17", check(short().bytes(), unused, 0, 0), Expected::Outcome(16, 0));
+    let both = vec![plain(NOT, 0, 0), plain(LABEL, 16, 0)];
+    add(list, "14 before 15", Case::Kind { rule: rule::bytes(&both) }, Expected::Outcome(14, 1));
+    let mut chart = short();
+    chart.arrows[0] = arrow(0, 1, 5, 4);
+    chart.arrows[2] = arrow(2, 3, 1, 1);
+    add(list, "7 before 8", check(chart.bytes(), vec![], 0, 0), Expected::Outcome(7, 2));
+    let zero = || single(0, &[(0, 3)]);
+    add(list, "19 before 41", map(zero(), vec![], vec![]), Expected::Outcome(19, 0));
+    add(list, "41 before 20", map(one().bytes(), vec![], vec![]), Expected::Outcome(41, 0));
+    add(list, "59 before 20", map(one().bytes(), zero(), vec![]), Expected::Outcome(59, 0));
+    let two = Chart { labels: vec![1, 2], arrows: vec![arrow(0, 1, 1, 1), arrow(1, 0, 1, 1)] }.bytes();
+    let entries = map_of(&[1, 2]);
+    add(list, "21 before 22", map(two.clone(), two.clone(), entries), Expected::Outcome(21, 1));
+    let slow = Chart { labels: vec![1, 4], arrows: vec![arrow(0, 1, 9, 9), arrow(1, 0, 1, 1)] }.bytes();
+    add(list, "22 before 23", map(slow, two, identity(2)), Expected::Outcome(22, 1));
+}
+
+pub fn all(list: &mut List) {
+    chart_frame(list);
+    chart_counts(list);
+    chart_arrows(list);
+    zero_loops(list);
+    buffers(list);
+    lowest(list);
+    order(list);
+}

@@ -1,0 +1,119 @@
+//! Named cases with the answer that the paper gives: both programs are held to it.
+
+use crate::cases::case::{Case, Lent, Table};
+use crate::bytes::chart::{arrow, framed, Chart, NO_END};
+use crate::calls::compare::{Answer, Kind, Part};
+use crate::bytes::rule::{self, plain, Node, TRUE};
+
+#[derive(Debug)]
+pub enum Expected {
+    Outcome(u32, u32),
+    /// Accepted, with these marks for the last node, states in order.
+    Last(&'static str),
+    /// Accepted, with these marks for all nodes.
+    Marks(&'static str),
+    Kind(Kind),
+    /// Where the part begins and how long it is.
+    Part(usize, usize),
+    EmptyPart,
+}
+
+pub struct Named {
+    pub name: String,
+    pub case: Case,
+    pub expected: Expected,
+}
+
+const FILL: u64 = 0x0D15_7A7C;
+
+fn digits(marks: &[u8]) -> String {
+    marks.iter().map(|mark| format!("{mark}")).collect()
+}
+
+impl Named {
+    pub fn met(&self, answer: &Answer) -> bool {
+        match (&self.expected, answer) {
+            (Expected::Last(text), Answer::Check { number: 0, place: 0, marks, .. }) => {
+                let Some(first) = self.last_row(text.len()) else {
+                    return false;
+                };
+                marks.get(first..first + text.len()).is_some_and(|row| digits(row) == *text)
+            }
+            (Expected::Marks(text), Answer::Check { number: 0, place: 0, marks, .. }) => {
+                marks.get(..text.len()).is_some_and(|all| digits(all) == *text)
+            }
+            (Expected::Kind(wanted), Answer::Kind { number: 0, place: 0, kind }) => kind == wanted,
+            (Expected::EmptyPart, Answer::Row(part)) => *part == Part::Empty,
+            (Expected::Part(from, length), Answer::Row(Part::At { offset, bytes })) => {
+                offset == from && bytes.len() == *length
+            }
+            (Expected::Outcome(number, place), other) => other.outcome() == Some((*number, *place)),
+            _ => false,
+        }
+    }
+
+    /// Where the last node's marks begin.
+    fn last_row(&self, n: usize) -> Option<usize> {
+        match &self.case {
+            Case::Check { rule, .. } => Some((rule.len() - 7) / 8 * n - n),
+            _ => None,
+        }
+    }
+}
+
+pub fn check(chart: Vec<u8>, rule: Vec<u8>, marks: usize, scratch: usize) -> Case {
+    Case::Check { chart, rule, marks: Lent::new(marks, FILL), scratch: Lent::new(scratch, FILL + 1) }
+}
+
+/// A check with buffers that are exactly long enough.
+pub fn exact(chart: &Chart, nodes: &[Node]) -> Case {
+    let n = chart.states();
+    check(chart.bytes(), rule::bytes(nodes), n * nodes.len(), 4 * n)
+}
+
+pub fn map(detail: Vec<u8>, overview: Vec<u8>, map: Vec<u8>) -> Case {
+    Case::Map { detail, overview, map }
+}
+
+pub fn row(overview: &[u8], detail: &[u8], choice: Table, n: usize, t: usize) -> Case {
+    Case::Row { overview: overview.to_vec(), detail: detail.to_vec(), choice, n, t }
+}
+
+pub fn add(list: &mut Vec<Named>, name: &str, case: Case, expected: Expected) {
+    list.push(Named { name: name.to_string(), case, expected });
+}
+
+pub fn short() -> Chart {
+    let arrows = vec![arrow(0, 1, 5, 10), arrow(1, 2, 0, 4), arrow(2, 0, 20, NO_END)];
+    Chart { labels: vec![1, 2, 4], arrows }
+}
+
+pub fn undo() -> Chart {
+    let mut chart = short();
+    chart.arrows.push(arrow(1, 0, 1, 1));
+    chart
+}
+
+pub fn one() -> Chart {
+    Chart { labels: vec![0], arrows: vec![arrow(0, 0, 1, 1)] }
+}
+
+/// A chart of n states, each with an arrow to itself, and m arrows in all.
+pub fn loops(n: usize, m: usize) -> Chart {
+    let arrows = (0..m).map(|j| arrow(j % n.max(1), j % n.max(1), 1, 1)).collect();
+    Chart { labels: vec![0; n], arrows }
+}
+
+pub fn just_true() -> Vec<Node> {
+    vec![plain(TRUE, 0, 0)]
+}
+
+pub fn identity(n: usize) -> Vec<u8> {
+    map_of(&(0..n as u16).collect::<Vec<_>>())
+}
+
+pub fn map_of(entries: &[u16]) -> Vec<u8> {
+    let mut words = vec![entries.len() as u16];
+    words.extend(entries);
+    framed(&words)
+}

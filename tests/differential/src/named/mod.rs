@@ -1,0 +1,8 @@
+//! 01's own cases, with the answer written beside each.
+
+pub mod charts;
+pub mod expected;
+pub mod items;
+pub mod large;
+pub mod maps;
+pub mod rules;

@@ -1,0 +1,107 @@
+//! Named files with the texts that both programs have to print: they and the oracle are held to them. Here the paper's
+//! own listing, and files that can't be read.
+
+use crate::programs::asks;
+use crate::bytes::chart::{arrow, Arrow, Chart};
+use crate::programs::files::{Files, Pair, Stored};
+use crate::programs::limits_length;
+use crate::programs::limits_rows;
+use crate::named::expected::short;
+use crate::bytes::rule::{self, node, plain, A, LABEL, TRUE};
+
+pub type List = Vec<Pair>;
+
+pub fn add(list: &mut List, name: &str, files: Files, listing: &str, calls: String) {
+    list.push(Pair { name: name.into(), files, written: Some([listing.into(), calls]) });
+}
+
+/// Without an ask, which is for the row of n = 0.
+pub fn files(chart: Vec<u8>, rule: Vec<u8>) -> Files {
+    Files { chart: Stored::Bytes(chart), rule: Stored::Bytes(rule), ask: Stored::Missing }
+}
+
+/// The text of desk_test_calls, given the row and all that the reader hands out.
+pub fn calls(row: &[u8], arrows: &[Arrow]) -> String {
+    let row: String = row.iter().map(|byte| format!(" {byte}")).collect();
+    let mut handed: Vec<String> =
+        arrows.iter().map(|a| format!("{} {} {} {}", a.start, a.end, a.fewest, a.most)).collect();
+    handed.extend(["finished".into(), "finished".into()]);
+    let lines = handed.windows(2).enumerate().map(|(i, two)| format!("{i}: {}, then {}\n", two[0], two[1]));
+    format!("row{row}\n{}", lines.collect::<String>())
+}
+
+const LISTING: &str = "states 3 nodes 3
+0 111
+1 001
+2 011
+";
+
+pub const SHORT_CALLS: &str = "row
+0: 0 1 5 10, then 1 2 0 4
+1: 1 2 0 4, then 2 0 20 65535
+2: 2 0 20 65535, then finished
+3: finished, then finished
+";
+
+/// The rule of the paper's listing.
+fn listed_rule() -> Vec<u8> {
+    rule::bytes(&[plain(TRUE, 0, 0), plain(LABEL, 2, 0), node(A, 1, 0, 1, 13)])
+}
+
+fn papers(list: &mut List) {
+    let listed = Files { ask: Stored::Bytes(asks::bytes(0, 0, 0)), ..files(short().bytes(), listed_rule()) };
+    add(list, "the paper's listing", listed, LISTING, SHORT_CALLS.into());
+    let bare = Chart { labels: vec![0; 3], arrows: vec![arrow(0, 1, 1, 1), arrow(1, 0, 1, 1)] };
+    let refused = files(bare.bytes(), listed_rule());
+    add(list, "the paper's refusal", refused, "refused 9 at 2\n", calls(&[], &[]));
+    // The reader asks for 1 to 9 alone.
+    let looped = Chart { labels: vec![0], arrows: vec![arrow(0, 0, 0, 3)] };
+    let refused = files(looped.bytes(), listed_rule());
+    add(list, "a loop of fewest 0", refused, "refused 19 at 0\n", calls(&[], &looped.arrows));
+}
+
+/// What can't be opened, or can't be read once it is, counts as empty.
+fn unreadable(list: &mut List) {
+    let sorts = [("missing", Stored::Missing), ("empty", Stored::Bytes(vec![])), ("a folder", Stored::Folder)];
+    for (name, sort) in sorts {
+        let whole = || files(short().bytes(), listed_rule());
+        let no_chart = Files { chart: sort.clone(), ..whole() };
+        add(list, &format!("chart {name}"), no_chart, "refused 1 at 0\n", calls(&[], &[]));
+        let no_rule = Files { rule: sort.clone(), ..whole() };
+        add(list, &format!("rule {name}"), no_rule, "refused 10 at 0\n", SHORT_CALLS.into());
+        let no_ask = Files { ask: sort.clone(), ..whole() };
+        add(list, &format!("ask {name}"), no_ask, LISTING, SHORT_CALLS.into());
+        let nothing = Files { chart: sort.clone(), rule: sort.clone(), ask: sort };
+        add(list, &format!("all {name}"), nothing, "refused 1 at 0\n", calls(&[], &[]));
+    }
+}
+
+pub fn all() -> List {
+    let mut list = Vec::new();
+    papers(&mut list);
+    unreadable(&mut list);
+    limits_length::all(&mut list);
+    limits_rows::all(&mut list);
+    list
+}
+
+#[cfg(test)]
+mod tests {
+    use super::all;
+
+    #[test]
+    fn no_name_and_no_files_twice() {
+        let list = all();
+        for (i, pair) in list.iter().enumerate() {
+            let same = list[..i].iter().find(|other| other.name == pair.name || other.files == pair.files);
+            assert!(same.is_none(), "{}", pair.name);
+        }
+    }
+
+    #[test]
+    fn the_oracle_prints_what_is_written() {
+        for pair in all() {
+            assert_eq!(Some(pair.files.texts()), pair.written, "{}", pair.name);
+        }
+    }
+}

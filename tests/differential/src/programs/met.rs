@@ -1,0 +1,90 @@
+//! What the random pairs of files led to.
+
+use crate::programs::files::Files;
+
+const KINDS: [&str; 9] = [
+    "listings",
+    "refusals of the chart",
+    "refusals of the rule",
+    "charts read",
+    "charts finished at once",
+    "overview rows found",
+    "overview rows empty",
+    "detail rows found",
+    "detail rows empty",
+];
+
+#[derive(Default)]
+pub struct Met([u64; KINDS.len()]);
+
+fn of_listing(text: &str) -> usize {
+    let Some(refusal) = text.strip_prefix("refused ") else {
+        return 0;
+    };
+    match refusal.split(' ').next().and_then(|number| number.parse().ok()) {
+        Some(10..=16) => 2,
+        _ => 1,
+    }
+}
+
+fn of_reader(calls: &str) -> usize {
+    if calls.lines().nth(1) == Some("0: finished, then finished") {
+        4
+    } else {
+        3
+    }
+}
+
+fn of_row(files: &Files, calls: &str) -> usize {
+    let detail = files.ask.read(1).iter().any(|&choice| choice != 0);
+    let empty = calls.starts_with("row\n");
+    5 + 2 * usize::from(detail) + usize::from(empty)
+}
+
+impl Met {
+    pub fn add(&mut self, files: &Files, [listing, calls]: &[String; 2]) {
+        for kind in [of_listing(listing), of_reader(calls), of_row(files, calls)] {
+            self.0[kind] += 1;
+        }
+    }
+
+    /// What no pair led to.
+    pub fn missing(&self) -> Vec<&'static str> {
+        KINDS.into_iter().zip(self.0).filter(|(_, count)| *count == 0).map(|(kind, _)| kind).collect()
+    }
+
+    pub fn text(&self) -> String {
+        KINDS.iter().zip(self.0).map(|(kind, count)| format!("{count:>8} {kind}\n")).collect()
+    }
+}
+
+#[cfg(test)]
+mod tests {
+    use super::Met;
+    use crate::programs::asks;
+    use crate::programs::files::{Files, Stored};
+    use crate::named::expected::{just_true, short};
+    use crate::bytes::rule;
+
+    fn met(chart: Vec<u8>, rule: Vec<u8>, ask: Vec<u8>) -> Vec<&'static str> {
+        let files = Files { chart: Stored::Bytes(chart), rule: Stored::Bytes(rule), ask: Stored::Bytes(ask) };
+        let mut met = Met::default();
+        let all = met.missing();
+        met.add(&files, &files.texts());
+        let missing = met.missing();
+        all.into_iter().filter(|kind| !missing.contains(kind)).collect()
+    }
+
+    #[test]
+    fn each_pair_counts_for_three_kinds() {
+        let (chart, rule) = (short().bytes(), rule::bytes(&just_true()));
+        let listed = met(chart.clone(), rule.clone(), asks::bytes(0, 1, 0));
+        assert_eq!(listed, ["listings", "charts read", "overview rows found"]);
+        let no_chart = met(vec![], rule.clone(), asks::bytes(1, 1, 0));
+        assert_eq!(no_chart, ["refusals of the chart", "charts finished at once", "detail rows found"]);
+        let no_rule = met(chart.clone(), vec![], asks::bytes(255, 1, 0));
+        assert_eq!(no_rule, ["refusals of the rule", "charts read", "detail rows empty"]);
+        let nothing_asked = met(chart, rule, vec![]);
+        assert_eq!(nothing_asked, ["listings", "charts read", "overview rows empty"]);
+    }
+}

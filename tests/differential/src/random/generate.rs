@@ -1,0 +1,110 @@
+//! Random cases by number: case i depends on the seed and i alone.
+
+use crate::cases::case::{Case, Lent};
+use crate::bytes::chart;
+use crate::random::damage;
+use crate::random::faults;
+use crate::random::maps;
+use crate::random::rng::Rng;
+use crate::random::rows;
+use crate::bytes::rule;
+use crate::random::trees;
+
+/// How many cases in 100 are checks.
+const CHECKS: usize = 60;
+
+/// A lent buffer that needs `exact` places: mostly enough of them, one too short at times.
+fn lent(rng: &mut Rng, exact: usize) -> Lent {
+    let length = match rng.below(40) {
+        0 => exact.saturating_sub(1),
+        1 => rng.below(exact),
+        2 => 0,
+        3..=12 => exact + 1,
+        13..=18 => exact + rng.within(2, 40),
+        19 => exact * 2 + 64,
+        _ => exact,
+    };
+    Lent::new(length, rng.next())
+}
+
+fn whole_check(rng: &mut Rng) -> Case {
+    let zero_loops = rng.percent(25);
+    let chart = chart::random(rng, zero_loops);
+    let rule = trees::random(rng, &chart);
+    let marks = lent(rng, chart.states() * rule.len());
+    let scratch = lent(rng, 4 * chart.states());
+    Case::Check { chart: chart.bytes(), rule: rule::bytes(&rule), marks, scratch }
+}
+
+/// Minutes and bounds up to the largest, where a number of 16 bits would no longer do.
+fn great_check(rng: &mut Rng) -> Case {
+    let chart = chart::great(rng);
+    let rule = trees::great(rng, &chart);
+    let marks = Lent::new(chart.states() * rule.len(), rng.next());
+    let scratch = Lent::new(4 * chart.states(), rng.next());
+    Case::Check { chart: chart.bytes(), rule: rule::bytes(&rule), marks, scratch }
+}
+
+/// One to six faults, in the chart, in the rule or in both, so that the order of rows counts.
+fn damaged_check(rng: &mut Rng) -> Case {
+    let mut chart = chart::random(rng, false);
+    let mut rule = trees::random(rng, &chart);
+    let (n, k) = (chart.states(), rule.len());
+    let (on_chart, on_rule) = rng.pick(&[(true, false), (false, true), (true, true)]);
+    let inner = rng.percent(60);
+    for _ in 0..rng.within(1, 2) {
+        if inner && on_chart {
+            faults::chart(rng, &mut chart);
+        }
+        if inner && on_rule {
+            faults::rule(rng, &mut rule);
+        }
+    }
+    let (mut chart, mut rule) = (chart.bytes(), rule::bytes(&rule));
+    if on_chart && (!inner || rng.percent(15)) {
+        damage::bytes(rng, &mut chart, damage::CHART_COUNTS);
+    }
+    if on_rule && (!inner || rng.percent(15)) {
+        damage::bytes(rng, &mut rule, damage::ONE_COUNT);
+    }
+    Case::Check { chart, rule, marks: lent(rng, k * n), scratch: lent(rng, 4 * n) }
+}
+
+fn kind(rng: &mut Rng) -> Case {
+    let chart = chart::random(rng, true);
+    let mut nodes = trees::random(rng, &chart);
+    let damaged = rng.percent(40);
+    if damaged && rng.percent(70) {
+        faults::rule(rng, &mut nodes);
+    }
+    let mut rule = rule::bytes(&nodes);
+    if damaged && rng.percent(50) {
+        damage::bytes(rng, &mut rule, damage::ONE_COUNT);
+    }
+    Case::Kind { rule }
+}
+
+/// One of the checks, by a share below `CHECKS`.
+fn check_of(rng: &mut Rng, share: usize) -> Case {
+    match share {
+        0..=1 => great_check(rng),
+        2..=41 => whole_check(rng),
+        _ => damaged_check(rng),
+    }
+}
+
+/// A check, as often of each sort as among the cases of all calls.
+pub fn check(rng: &mut Rng) -> Case {
+    let share = rng.below(CHECKS);
+    check_of(rng, share)
+}
+
+pub fn random(seed: u64, number: u64) -> Case {
+    let mut rng = Rng::of_case(seed, number);
+    match rng.below(100) {
+        share @ 0..CHECKS => check_of(&mut rng, share),
+        60..=69 => kind(&mut rng),
+        70..=91 => maps::random(&mut rng),
+        _ => rows::random(&mut rng),
+    }
+}
