@@ -20,10 +20,10 @@ fn room_refusal(n: usize, k: usize, marks: &[u8], scratch: &[u32]) -> Outcome
     ensures { λ r. ⌜ r ≡ first (roomTable n k (now (marks .entry)) (now (scratch .entry))) ⌝ }
 {
     if marks.len() < k * n {
-        return outcome::refused(17, 0);
+        return outcome::refused(outcome::MARKS_TABLE, 0);
     }
     if scratch.len() < scratch_size(n) {
-        return outcome::refused(18, 0);
+        return outcome::refused(outcome::SCRATCH, 0);
     }
     outcome::accepted()
 }

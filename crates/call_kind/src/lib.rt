@@ -26,13 +26,13 @@ fn all_runs(rule: &[u8], t: usize) -> bool
     ensures { λ r. ⌜ r ≡ isOf allRuns (formulaAt (now (rule .entry)) t) ⌝ }
 {
     let node = rule::node_at(rule, t);
-    if node.operation < 2 {
+    if node.operation < rule::NOT {
         return true;
     }
-    if node.operation == 2 {
+    if node.operation == rule::NOT {
         return some_run(rule, node.a);
     }
-    if node.operation == 5 {
+    if node.operation == rule::SOME_UNTIL {
         return false;
     }
     if all_runs(rule, node.a) {
@@ -47,13 +47,13 @@ fn some_run(rule: &[u8], t: usize) -> bool
     ensures { λ r. ⌜ r ≡ isOf someRun (formulaAt (now (rule .entry)) t) ⌝ }
 {
     let node = rule::node_at(rule, t);
-    if node.operation < 2 {
+    if node.operation < rule::NOT {
         return true;
     }
-    if node.operation == 2 {
+    if node.operation == rule::NOT {
         return all_runs(rule, node.a);
     }
-    if node.operation == 6 {
+    if node.operation == rule::ALL_UNTIL {
         return false;
     }
     if some_run(rule, node.a) {

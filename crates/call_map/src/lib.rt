@@ -29,7 +29,7 @@ fn label_refusal(
         let own = chart::label_word(detail, d);
         let e = map::entry_at(map, d);
         if own != chart::label_word(overview, e) {
-            return outcome::refused(22, d as u32);
+            return outcome::refused(outcome::LABELS_DIFFER, d as u32);
         }
         d += 1;
     }
@@ -57,7 +57,7 @@ fn cover_refusal(
         let to = map::entry_at(map, a.end);
         near = cover::covering_arrow(overview, k, l, near, from, to, a);
         if l <= near {
-            return outcome::refused(23, i as u32);
+            return outcome::refused(outcome::NOT_COVERED, i as u32);
         }
         i += 1;
     }
@@ -126,7 +126,7 @@ fn overview_refusal(overview: &[u8]) -> Outcome
 {
     let own = loops::accepted_refusal(overview);
     if own.number != 0 {
-        return outcome::refused(own.number + 40, own.place);
+        return outcome::refused(own.number + outcome::OVERVIEW, own.place);
     }
     outcome::accepted()
 }

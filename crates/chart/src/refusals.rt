@@ -18,20 +18,20 @@ fn size_refusal(chart: &[u8]) -> Outcome
 {
     let n = crate::state_count(chart);
     if n < 1 {
-        return outcome::refused(4, 0);
+        return outcome::refused(outcome::STATE_COUNT, 0);
     }
     if 256 < n {
-        return outcome::refused(4, 0);
+        return outcome::refused(outcome::STATE_COUNT, 0);
     }
     let m = crate::arrow_count(chart);
     if m < 1 {
-        return outcome::refused(5, 0);
+        return outcome::refused(outcome::ARROW_COUNT, 0);
     }
     if 2048 < m {
-        return outcome::refused(5, 0);
+        return outcome::refused(outcome::ARROW_COUNT, 0);
     }
     if chart.len() != 9 + 2 * n + 8 * m {
-        return outcome::refused(6, 0);
+        return outcome::refused(outcome::CHART_LENGTH, 0);
     }
     outcome::accepted()
 }
@@ -61,7 +61,7 @@ fn slot_refusal(before: Outcome, a: ArrowWords, i: usize) -> Outcome
     if before.number != 0 {
         return before;
     }
-    outcome::refused(8, i as u32)
+    outcome::refused(outcome::EMPTY_SLOT, i as u32)
 }
 
 // What a pass over the arrows finds: the first of rows 7 and 8 that is met, and if none is, which states an arrow leaves.
@@ -82,7 +82,7 @@ fn seen_arrows(chart: &[u8], n: usize, m: usize) -> Seen
         let a = crate::arrow_at(chart, n, i);
         if names_no_state(n, a) {
             return Seen {
-                refusal: outcome::refused(7, i as u32),
+                refusal: outcome::refused(outcome::NO_SUCH_STATE, i as u32),
                 left: left,
             };
         }
@@ -105,7 +105,7 @@ fn state_refusal(left: [u64; 4], n: usize) -> Outcome
     let mut v = 0;
     while v < n {
         if !masks::has(left[v / 64], v % 64) {
-            return outcome::refused(9, v as u32);
+            return outcome::refused(outcome::NO_ARROW_OUT, v as u32);
         }
         v += 1;
     }
@@ -130,7 +130,7 @@ fn body_refusal(chart: &[u8], n: usize, m: usize) -> Outcome
 pub fn chart_refusal(chart: &[u8]) -> Outcome
     ensures { λ r. ⌜ r ≡ chartRefusal (now (chart .entry)) ⌝ }
 {
-    let head = head::head_refusal(chart, 9, 1);
+    let head = head::head_refusal(chart, 9, outcome::CHART_HEAD);
     if head.number != 0 {
         return head;
     }

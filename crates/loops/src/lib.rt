@@ -163,7 +163,7 @@ fn batch_refusal(
     while g < end {
         let j = g - base;
         if (numbers[g] >> j) % 2 == 1 {
-            return outcome::refused(19, g as u32);
+            return outcome::refused(outcome::ZERO_LOOP, g as u32);
         }
         g += 1;
     }

@@ -20,16 +20,16 @@ pub fn entry_at(map: &[u8], d: usize) -> usize
 pub fn form_refusal(map: &[u8], n: usize) -> Outcome
     ensures { λ r. ⌜ r ≡ first (formRow (now (map .entry)) n ∷ []) ⌝ }
 {
-    let head = head::head_refusal(map, 7, 20);
+    let head = head::head_refusal(map, 7, outcome::NO_MAP);
     if head.number != 0 {
-        return outcome::refused(20, 0);
+        return outcome::refused(outcome::NO_MAP, 0);
     }
     let count = words::be16(map, 5) as usize;
     if map.len() != 7 + 2 * count {
-        return outcome::refused(20, 0);
+        return outcome::refused(outcome::NO_MAP, 0);
     }
     if count != n {
-        return outcome::refused(20, 0);
+        return outcome::refused(outcome::NO_MAP, 0);
     }
     outcome::accepted()
 }
@@ -42,7 +42,7 @@ pub fn entry_refusal(map: &[u8], n: usize, k: usize) -> Outcome
     let mut d = 0;
     while d < n {
         if k <= entry_at(map, d) {
-            return outcome::refused(21, d as u32);
+            return outcome::refused(outcome::NO_OVERVIEW_STATE, d as u32);
         }
         d += 1;
     }

@@ -27,15 +27,15 @@ fn until(
         (mark n (now (marks .entry)) (node .a)) (mark n (now (marks .entry)) (node .b))))
         (now (marks .entry)) (now (marks .exit)) ⌝ }
 {
-    if node.operation == 5 {
-        if node.kind == 1 {
+    if node.operation == rule::SOME_UNTIL {
+        if node.kind == rule::AT_MOST {
             until_once::some_at_most(chart, n, m, t, node, marks, numbers);
             return;
         }
         until_once::some_at_least(chart, n, m, t, node, marks, numbers);
         return;
     }
-    if node.kind == 1 {
+    if node.kind == rule::AT_MOST {
         until_once::unhindered(false, node.c + 1, chart, n, m, t, node, marks, numbers);
         return;
     }
@@ -62,23 +62,23 @@ pub fn settle_node(
         (now (marks .entry)) (now (marks .exit)) ⌝ }
 {
     let node = rule::node_at(rule, t);
-    if node.operation == 0 {
+    if node.operation == rule::TRUE {
         fill::fill(Connective::Yes, n, t, t, t, marks);
         return;
     }
-    if node.operation == 1 {
+    if node.operation == rule::LABEL {
         fill::fill_label(chart, n, node.a, t, marks);
         return;
     }
-    if node.operation == 2 {
+    if node.operation == rule::NOT {
         fill::fill(Connective::Not, n, t, node.a, node.a, marks);
         return;
     }
-    if node.operation == 3 {
+    if node.operation == rule::AND {
         fill::fill(Connective::And, n, t, node.a, node.b, marks);
         return;
     }
-    if node.operation == 4 {
+    if node.operation == rule::OR {
         fill::fill(Connective::Or, n, t, node.a, node.b, marks);
         return;
     }

@@ -23,3 +23,45 @@ pub fn refused(number: u32, place: u32) -> Outcome
 {
     Outcome { number, place }
 }
+
+// The numbers of 01's table. Of a head, three in a row: too short, another version, a stated length that is not the real one.
+pub const CHART_HEAD: u32 = 1;
+
+pub const STATE_COUNT: u32 = 4;
+
+pub const ARROW_COUNT: u32 = 5;
+
+pub const CHART_LENGTH: u32 = 6;
+
+pub const NO_SUCH_STATE: u32 = 7;
+
+pub const EMPTY_SLOT: u32 = 8;
+
+pub const NO_ARROW_OUT: u32 = 9;
+
+pub const RULE_HEAD: u32 = 10;
+
+pub const NODE_COUNT: u32 = 13;
+
+pub const MALFORMED: u32 = 14;
+
+pub const NOT_LOWER: u32 = 15;
+
+pub const NOT_USED_ONCE: u32 = 16;
+
+pub const MARKS_TABLE: u32 = 17;
+
+pub const SCRATCH: u32 = 18;
+
+pub const ZERO_LOOP: u32 = 19;
+
+pub const NO_MAP: u32 = 20;
+
+pub const NO_OVERVIEW_STATE: u32 = 21;
+
+pub const LABELS_DIFFER: u32 = 22;
+
+pub const NOT_COVERED: u32 = 23;
+
+// What is added to a chart's number if it is the overview's.
+pub const OVERVIEW: u32 = 40;

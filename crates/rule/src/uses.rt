@@ -85,7 +85,7 @@ pub fn use_refusal(rule: &[u8], k: usize) -> Outcome
     let mut v = 0;
     while v < last {
         if !used_once(used, v) {
-            return outcome::refused(16, v as u32);
+            return outcome::refused(outcome::NOT_USED_ONCE, v as u32);
         }
         v += 1;
     }

@@ -16,12 +16,12 @@ pub fn settle(
     ensures { λ _. ⌜ Settled (now (chart .entry)) n (now (rule .entry)) t (now (marks .entry)) (now (marks .exit)) ⌝ }
 {
     let node = rule::node_at(rule, t);
-    if node.operation < 2 {
+    if node.operation < rule::NOT {
         nodes::settle_node(chart, n, m, rule, t, marks, numbers);
         return;
     }
     settle(chart, n, m, rule, node.a, marks, numbers);
-    if node.operation == 2 {
+    if node.operation == rule::NOT {
         nodes::settle_node(chart, n, m, rule, t, marks, numbers);
         return;
     }
