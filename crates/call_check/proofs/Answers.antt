@@ -23,7 +23,8 @@ use Rattle.rule.specs.Formula.{formulaAt}
 use Rattle.loops.specs.Refusal.{loopRow, acceptedTable}
 use Rattle.loops.proofs.Chain as loops
 use Rattle.loops.proofs.Accepted.{accepted-only}
-use Rattle.call_check.specs.Check.{scratchSize, marksOf, marksAfter, scratchAfter, Tells, Meaning, Checked}
+use Rattle.room.specs.Room.{scratchSize}
+use Rattle.call_check.specs.Check.{marksOf, marksAfter, scratchAfter, Tells, Meaning, Checked}
 use Rattle.call_check.specs.Judged.{inputTable, Judged}
 use Rattle.call_check.proofs.Chain.{input-refuses, input-number, loop-next, input-passes, loop-number}
 use Rattle.call_check.proofs.Marks.{marks-written, bit-tells}

@@ -19,7 +19,8 @@ use Rattle.rule.specs.Bytes.{nodeCount}
 use Rattle.rule.specs.Refusals.{ruleTable, ruleRefusal}
 use Rattle.rule.proofs.Accepted.{accepted}
 use Rattle.loops.specs.Refusal.{loopRow}
-use Rattle.call_check.specs.Check.{scratchSize, roomTable, checkTable, checkRefusal}
+use Rattle.room.specs.Room.{scratchSize, roomTable}
+use Rattle.call_check.specs.Check.{checkTable, checkRefusal}
 use Rattle.call_check.specs.Judged.{inputTable}
 
 module _ (rule : List ℕ) {b : Outcome} (f : b ≡ ruleRefusal rule) (w : b .number ≡ 0) where

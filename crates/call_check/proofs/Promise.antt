@@ -11,7 +11,8 @@ use Rattle.outcome.specs.declared.Outcome.{Outcome}
 use Rattle.outcome.specs.Refusal.{Row, first}
 use Rattle.chart.specs.Bytes.{stateCount}
 use Rattle.rule.specs.Bytes.{nodeCount}
-use Rattle.call_check.specs.Check.{scratchSize, marksOf, marksAfter, scratchAfter, Checked}
+use Rattle.room.specs.Room.{scratchSize}
+use Rattle.call_check.specs.Check.{marksOf, marksAfter, scratchAfter, Checked}
 use Rattle.call_check.specs.Judged.{inputTable}
 use Rattle.call_check.proofs.Chain.{Admitted, input-refuses, input-number, input-passes}
 

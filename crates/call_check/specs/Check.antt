@@ -4,33 +4,21 @@ use mathlib.Core.Logic.{_↔_}
 use mathlib.Core.Bool.{cond, _||_}
 use mathlib.Core.List.{List, [], _∷_, _++_}
 use Prim.Native.Nat.{ℕ, _+_, _*_, _<_, _/_, _%_}
-use lib.ListN.{length, getD, drop, replicate}
-use lib.Dec.{eqb, ltb}
+use lib.ListN.{getD, drop, replicate}
+use lib.Dec.{eqb}
 use Rattle.base.specs.Tabulate.{tabulate}
 use Rattle.tctl.specs.Holds.{Holds}
 use Rattle.model.specs.Decide.{holds}
 use Rattle.model.specs.Marks.{bit}
 use Rattle.outcome.specs.declared.Outcome.{Outcome}
-use Rattle.outcome.specs.Refusal.{Row, refuse, whole, first}
+use Rattle.outcome.specs.Refusal.{Row, first}
 use Rattle.chart.specs.Bytes.{stateCount, chartOf}
 use Rattle.chart.specs.Refusals.{chartTable}
 use Rattle.rule.specs.Bytes.{nodeCount}
 use Rattle.rule.specs.Refusals.{ruleTable}
 use Rattle.rule.specs.Formula.{formulaAt}
 use Rattle.loops.specs.Refusal.{loopRow}
-
--- "4n numbers": how many are asked for, and cleared, for n states
-abbrev pub scratchSize : ℕ → ℕ
-scratchSize n = 4 * n
-
--- rows 17 and 18, for n states and k nodes
-abbrev pub roomTable : ℕ → ℕ → List ℕ → List ℕ → List Row
-roomTable n k marks scratch =
-    -- marks table under k × n bytes
-    refuse 17 (whole (ltb (length marks) (k * n))) ∷
-    -- scratch under 4n numbers
-    refuse 18 (whole (ltb (length scratch) (scratchSize n))) ∷
-    []
+use Rattle.room.specs.Room.{roomTable, scratchSize}
 
 -- "Check tests in number order": the chart's rows, the rule's, those of the room lent, and 19
 unfoldable pub checkTable : List ℕ → List ℕ → List ℕ → List ℕ → List Row

@@ -12,7 +12,7 @@ use Rattle.rule.specs.Bytes.{nodeCount}
 use Rattle.rule.specs.Refusals.{ruleTable, ruleRefusal}
 use Rattle.loops.specs.Refusal.{loopRow}
 use Rattle.nodes.specs.Right.{Right}
-use Rattle.call_check.specs.Check.{roomTable}
+use Rattle.room.specs.Room.{roomTable}
 
 -- rows 1 to 18
 abbrev pub inputTable : List ℕ → List ℕ → List ℕ → List ℕ → List Row

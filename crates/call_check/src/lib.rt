@@ -1,47 +1,24 @@
 // The call check.
 ghost use mathlib.Core.Path.{_≡_};
-ghost use Prim.Native.Nat.{_≤_};
 ghost use Rattle.outcome.specs.Refusal.{first};
-ghost use Rattle.call_check.specs.Check.{scratchSize, roomTable, Checked};
+ghost use Rattle.call_check.specs.Check.{Checked};
 ghost use Rattle.call_check.specs.Judged.{inputTable, Judgeable, Judged};
 use outcome::Outcome;
-
-// How many numbers are asked for, and cleared, for n states.
-fn scratch_size(n: usize) -> usize
-    requires { ⌜ n ≤ 256 ⌝ }
-    ensures { λ r. ⌜ r ≡ scratchSize n ⌝ }
-{
-    4 * n
-}
-
-// Rows 17 and 18.
-fn room_refusal(n: usize, k: usize, marks: &[u8], scratch: &[u32]) -> Outcome
-    requires { ⌜ (n ≤ 256) × (k ≤ 64) ⌝ }
-    ensures { λ r. ⌜ r ≡ first (roomTable n k (now (marks .entry)) (now (scratch .entry))) ⌝ }
-{
-    if marks.len() < k * n {
-        return outcome::refused(outcome::MARKS_TABLE, 0);
-    }
-    if scratch.len() < scratch_size(n) {
-        return outcome::refused(outcome::SCRATCH, 0);
-    }
-    outcome::accepted()
-}
 
 // Rows 1 to 18.
 fn input_refusal(chart: &[u8], rule: &[u8], marks: &[u8], scratch: &[u32]) -> Outcome
     ensures { λ r. ⌜ r ≡ first (inputTable (now (chart .entry)) (now (rule .entry))
         (now (marks .entry)) (now (scratch .entry))) ⌝ }
 {
-    let of_chart = chart::refusals::chart_refusal(chart);
+    let of_chart = chart_refusals::chart_refusal(chart);
     if of_chart.number != 0 {
         return of_chart;
     }
-    let of_rule = rule::refusals::rule_refusal(rule);
+    let of_rule = rule_refusals::rule_refusal(rule);
     if of_rule.number != 0 {
         return of_rule;
     }
-    room_refusal(
+    room::room_refusal(
         chart::state_count(chart),
         rule::node_count(rule),
         marks,
@@ -85,7 +62,7 @@ pub fn check(chart: &[u8], rule: &[u8], marks: &mut [u8], scratch: &mut [u32]) -
     let m = chart::arrow_count(chart);
     let k = rule::node_count(rule);
     let outcome = judged(chart, n, m, rule, k, marks, &mut scratch[..n]);
-    let zeros = scratch_size(n);
+    let zeros = room::scratch_size(n);
     loops::clear(&mut scratch[..zeros]);
     outcome
 }

@@ -81,7 +81,7 @@ fn kind_for(all: bool, some: bool) -> Kind
 pub fn kind_of_rule(rule: &[u8]) -> KindAnswer
     ensures { λ r. ⌜ Answered (now (rule .entry)) r ⌝ }
 {
-    let outcome = rule::refusals::rule_refusal(rule);
+    let outcome = rule_refusals::rule_refusal(rule);
     if outcome.number != 0 {
         return KindAnswer {
             outcome,

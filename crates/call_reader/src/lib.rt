@@ -25,7 +25,7 @@ pub struct Stepped {
 pub fn step(chart: &[u8], number: usize) -> Stepped
     ensures { λ r. ⌜ r ≡ stepOf (now (chart .entry)) number ⌝ }
 {
-    let refusal = chart::refusals::chart_refusal(chart);
+    let refusal = chart_refusals::chart_refusal(chart);
     if refusal.number == 0 {
         if number < chart::arrow_count(chart) {
             let arrow = chart::arrow_at(chart, chart::state_count(chart), number);

@@ -1,6 +1,5 @@
 pub mod Arrow
 pub mod Most
-pub mod Left
 pub mod Passed
 pub mod Chart
 pub mod WellFormed

@@ -1,10 +1,7 @@
 -- The rows of the chart's table as the functions test them, of a chart with n states and m arrows.
-use mathlib.Core.Path.{_≡_}
 use mathlib.Core.Bool.{not}
 use mathlib.Core.List.{List, [], _∷_}
-use Prim.Native.Nat.{ℕ, _/_, _%_, _<_}
-use lib.ListN.{length, getD}
-use Rattle.masks.specs.Member.{member}
+use Prim.Native.Nat.{ℕ}
 use Rattle.outcome.specs.Refusal.{Row, refuse, lowest}
 use Rattle.chart.specs.Bytes.{arrowWords}
 use Rattle.chart.specs.Refusals.{namesNoState, emptySlot, leftBy}
@@ -28,8 +25,3 @@ stateRow s n m = refuse 9 (lowest (λ v. not (leftBy s m v)) n)
 -- rows 7 to 9
 abbrev pub bodyRows : List ℕ → ℕ → ℕ → List Row
 bodyRows s n m = endRow s n m ∷ slotRow s m ∷ stateRow s n m ∷ []
-
--- the sets, each of 64 states, have the states that the first i arrows leave
-pub record Leaves (s : List ℕ) (i : ℕ) (left : List ℕ) : Type 0 where
-  pub size : length left ≡ 4
-  pub tells : (v : ℕ) → v < 256 → member (getD left (v / 64) 0) (v % 64) ≡ leftBy s i v

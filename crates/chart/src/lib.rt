@@ -1,11 +1,9 @@
-// A chart's bytes: reading n, m, a label word and an arrow. The refusals stand in refusals.
+// A chart's bytes: reading n, m, a label word and an arrow. The refusals stand in `chart_refusals`.
 ghost use mathlib.Core.Path.{_≡_};
 ghost use Prim.Native.Nat.{_+_, _*_, _≤_, _<_};
 ghost use lib.ListN.{length};
 ghost use Rattle.chart.specs.Bytes.{stateCount, arrowCount, labelWord, isNoEnd, arrowWords};
 ghost use Rattle.chart.specs.Shape.{Small, Inside};
-
-pub mod refusals;
 
 // The four words of an arrow.
 pub struct ArrowWords {

@@ -18,7 +18,8 @@ use Rattle.rule.specs.Bytes.{nodeCount}
 use Rattle.rule.specs.Formula.{formulaAt}
 use Rattle.loops.specs.Refusal.{loopRow}
 use Rattle.nodes.specs.Right.{Right}
-use Rattle.call_check.specs.Check.{scratchSize, checkRefusal, marksOf, Checked}
+use Rattle.room.specs.Room.{scratchSize}
+use Rattle.call_check.specs.Check.{checkRefusal, marksOf, Checked}
 use Rattle.call_check.specs.Judged.{inputTable, Judged}
 use Rattle.call_check.proofs.Chain.{input-passes}
 use Rattle.call_check.proofs.Marks.{front-size, past-front, marks-length}

@@ -18,7 +18,8 @@ use Rattle.rule.specs.Refusals.{ruleTable, ruleRefusal}
 use Rattle.loops.specs.Accepted.{AcceptedChart}
 use Rattle.loops.specs.Refusal.{loopRow, acceptedTable}
 use Rattle.loops.proofs.Accepted.{unmet-iff}
-use Rattle.call_check.specs.Check.{scratchSize, checkTable, checkRefusal, marksOf, Checked}
+use Rattle.room.specs.Room.{scratchSize}
+use Rattle.call_check.specs.Check.{checkTable, checkRefusal, marksOf, Checked}
 use Rattle.call_check.specs.Judged.{inputTable}
 use Rattle.call_check.proofs.Chain.{check-numbered, input-iff, check-iff, room-iff}
 use Rattle.call_check.proofs.Marks.{front-size, past-front, marks-length}

@@ -31,7 +31,8 @@ use Rattle.call_reader.specs.Reading.{handed, stepOf, moved}
 use Rattle.loops.specs.Accepted.{AcceptedChart}
 use Rattle.loops.specs.Refusal.{acceptedTable, acceptedRefusal}
 use Rattle.call_map.specs.Refusals.{mapCheckTable, mapRefusal}
-use Rattle.call_check.specs.Check.{scratchSize, checkTable, Checked}
+use Rattle.room.specs.Room.{scratchSize}
+use Rattle.call_check.specs.Check.{checkTable, Checked}
 use Rattle.claim_demands.specs.Answers.{Answers}
 use Rattle.claim_demands.specs.DetailRule.{Premises}
 

@@ -30,7 +30,8 @@ use Rattle.rule.specs.Formula.{formulaBy, formulaOf}
 use Rattle.loops.specs.Refusal.{loopRow, acceptedTable, acceptedRefusal}
 use Rattle.loops.specs.Accepted.{AcceptedChart}
 use Rattle.loops.proofs.Accepted.{accepted-numbered, unmet-iff}
-use Rattle.call_check.specs.Check.{scratchSize, checkRefusal}
+use Rattle.room.specs.Room.{scratchSize}
+use Rattle.call_check.specs.Check.{checkRefusal}
 use Rattle.claim_demands.proofs.Check.{check-accepts}
 use Rattle.claim_items.specs.Items.{Item, items}
 use Rattle.claim_items.specs.Right.{Right}

@@ -212,7 +212,7 @@ pub fn loop_refusal(chart: &[u8], n: usize, m: usize, numbers: &mut [u32]) -> Ou
 pub fn accepted_refusal(chart: &[u8]) -> Outcome
     ensures { λ r. ⌜ r ≡ acceptedRefusal (now (chart .entry)) ⌝ }
 {
-    let body = chart::refusals::chart_refusal(chart);
+    let body = chart_refusals::chart_refusal(chart);
     if body.number != 0 {
         return body;
     }

@@ -36,11 +36,11 @@ fn until(
         return;
     }
     if node.kind == rule::AT_MOST {
-        until_once::unhindered(false, node.c + 1, chart, n, m, t, node, marks, numbers);
+        until_start::unhindered(false, node.c + 1, chart, n, m, t, node, marks, numbers);
         return;
     }
     if node.c == 0 {
-        until_once::unhindered(true, n as u32, chart, n, m, t, node, marks, numbers);
+        until_start::unhindered(true, n as u32, chart, n, m, t, node, marks, numbers);
         return;
     }
     until_twice::all_at_least(chart, n, m, t, node, marks, numbers);

@@ -1,74 +1,25 @@
--- The model's numbers, judged, are the rows of the untils.
+-- The rows of the untils that one run of the engine settles.
 use mathlib.Core.Path.{_≡_, refl, sym, ap, _∙_}
-use mathlib.Core.Logic.{by-cases}
-use mathlib.Core.Bool.{Bool, true, false, cond}
+use mathlib.Core.Bool.{Bool, false, cond}
 use mathlib.Core.List.{List, map}
-use Prim.Native.Nat.{ℕ, suc, _+_, _-_, _≤_, _<_, compare·suc-suc}
+use Prim.Native.Nat.{ℕ, suc, _+_, _-_, _<_}
 use native.Mathlib.Omega.{arith}
-use native.Mathlib.Decide.{decLt}
-use lib.ListN.{length}
-use lib.Dec.{leb, ltb, isLe}
-use borrow.Author.Tests.{lt-ltb, le-ltb, le-leb, lt-leb}
-use Rattle.base.specs.Tabulate.{tabulate}
+use lib.Dec.{leb, ltb}
 use Rattle.tctl.specs.Chart.{Arrow}
 use Rattle.tctl.specs.Formula.{atMost, atLeast}
-use Rattle.base.proofs.Tabulate.{getD-tabulate, tabulate-same, map-tabulate}
 use Rattle.model.specs.Engine.{num, lowered, least, greatest}
-use Rattle.model.specs.Decide.{ask, someRow, waiting, failing, waits, ticking, plainRow, allRow}
-use Rattle.model.specs.Weighed.{weighed}
+use Rattle.model.specs.Decide.{ask, someRow, waits, ticking, allRow}
 use Rattle.model.proofs.Same.{Same}
 use Rattle.chart.specs.Bytes.{chartOf}
 use Rattle.hints.specs.Values.{valueOf, values}
-use Rattle.hints.proofs.Values.{value-at, values-length, num-map}
+use Rattle.hints.proofs.Values.{value-at}
 use Rattle.ways.specs.declared.Way.the-variants.{Lower, Raise}
 use Rattle.ways.specs.Way.{top, leftOver}
-use Rattle.fill.specs.declared.Initial.the-variants.{Reach, Goal, Fail}
+use Rattle.fill.specs.declared.Initial.the-variants.{Reach, Goal}
 use Rattle.until_start.specs.Risen.{Risen}
+use Rattle.until_start.proofs.Waits.{answers, up-to, one-more, left-at, at-most-left, left-tabulated, left-reach, plain-answers}
 
--- a row that is tabulated from the numbers ts answers as the same numbers ws do
-pub answers :
-    {n : ℕ} (judge : ℕ → Bool) {ws ts : List ℕ} → ws ≡ ts →
-    Same n (λ s. judge (num ws s)) (ask (tabulate n (λ s. judge (num ts s))))
-answers {n} judge {ws} {ts} e s l =
-    ap (λ t. judge (num t s)) e ∙ sym (getD-tabulate n (λ s. judge (num ts s)) false s l)
-
--- up to c is below c + 1
-up-to : (v c : ℕ) → leb v c ≡ ltb v (suc c)
-up-to v c = ap isLe (sym (compare·suc-suc v c))
-
-one-more : (c : ℕ) → c + 1 ≡ suc c
-one-more c = omega arith
-
--- ── Minutes, by what they leave to the top ──
-
--- the minutes that a number leaves
-pub left-at : (ns : List ℕ) (s : ℕ) → s < length ns → num (leftOver (values ns)) s ≡ top - valueOf (num ns s)
-left-at ns s l =
-    num-map (λ v. top - v) (values ns) s (omega (arith, values-length ns)) ∙ ap (λ v. top - v) (sym (value-at ns s))
-
--- c minutes at most are left by what is above the top less c + 1
-at-most-left : (c v : ℕ) → c < top → ltb (top - (c + 1)) v ≡ leb (top - v) c
-at-most-left c v h =
-    by-cases (decLt (top - (c + 1)) v) (λ l. lt-ltb (top - (c + 1)) v l ∙ sym (le-leb (top - v) c (omega arith)))
-    (λ l. le-ltb (top - (c + 1)) v (omega arith) ∙ sym (lt-leb (top - v) c (omega arith)))
-
--- c minutes at least are left by what is up to the top less c
-pub at-least-left : (c v : ℕ) → 0 < c → c ≤ top → leb v (top - c) ≡ leb c (top - v)
-at-least-left c v h k =
-    by-cases (decLt (top - c) v) (λ l. lt-leb v (top - c) l ∙ sym (lt-leb c (top - v) (omega arith)))
-    (λ l. le-leb v (top - c) (omega arith) ∙ sym (le-leb c (top - v) (omega arith)))
-
--- the minutes of values that are tabulated
-pub left-tabulated :
-    (n : ℕ) (v w : ℕ → ℕ) → Same n (λ s. top - v s) w → leftOver (tabulate n v) ≡ tabulate n w
-left-tabulated n v w e = map-tabulate (λ x. top - x) n v ∙ tabulate-same n (λ s. top - v s) w e
-
--- 0 minutes where q holds, else the cap
-left-reach : (q : Bool) (cap : ℕ) → cap ≤ top → top - cond q top (top - cap) ≡ cond q 0 cap
-left-reach true cap h = omega arith
-left-reach false cap h = omega arith
-
--- ── E(p until q), and the waits ──
+-- ── E(p until q) ──
 
 module _ {chart ns : List ℕ} {n : ℕ} {p q : ℕ → Bool} (c : ℕ) where
   pub some-at-most :
@@ -95,18 +46,6 @@ module _ {chart ns : List ℕ} {n : ℕ} {p q : ℕ → Bool} (c : ℕ) where
       answers (ltb c)
       (r .is ∙ ap (λ k. greatest (chartOf chart .arrows) n k p (λ s. cond (q s) 1 0)) (one-more c)) s l
 
-  pub unhindered-by :
-      {ticks : Bool} →
-      Risen (Fail (c + 1)) (Raise (record { ticks = ticks; leap = false; cap = c + 1 })) chart n p q ns →
-      Same n (λ s. leb (valueOf (num ns s)) c)
-      (λ s. leb (num (waits (weighed ticks (chartOf chart .arrows)) n c p q) s) c)
-  unfolding waits greatest
-  unhindered-by {ticks} r s l =
-      ap (λ v. leb v c) (value-at ns s) ∙
-      ap (λ t. leb (num t s) c)
-      (r .is ∙
-      ap (λ k. greatest (weighed ticks (chartOf chart .arrows)) n k (waiting p q) (failing k p q)) (one-more c))
-
 -- ── A(p until q), by the waits ──
 
 module _ (n : ℕ) (arrows : List Arrow) (p q : ℕ → Bool) where
@@ -117,12 +56,8 @@ module _ (n : ℕ) (arrows : List Arrow) (p q : ℕ → Bool) where
       ap (λ k. leb (num (waits arrows n k p q) s) k) (one-more c) ∙
       answers (λ v. leb v (suc c)) {ws = waits arrows n (suc c) p q} refl s l
 
-  pub plain-answers : Same n (λ s. leb (num (waits (map ticking arrows) n n p q) s) n) (ask (plainRow arrows n p q))
-  unfolding plainRow
-  plain-answers = answers (λ v. leb v n) {ws = waits (map ticking arrows) n n p q} refl
-
   pub all-plain :
       {c : ℕ} → c ≡ 0 →
       Same n (λ s. leb (num (waits (map ticking arrows) n n p q) s) n) (ask (allRow arrows n (atLeast c) p q))
   unfolding allRow
-  all-plain e = rw e plain-answers
+  all-plain e = rw e (plain-answers n arrows p q)

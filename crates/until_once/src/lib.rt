@@ -1,13 +1,9 @@
 // Untils that one run of the engine settles: E with either bound, and the states from which no run fails or waits.
-ghost use Prim.Native.Nat.{suc, _≤_, _<_};
-ghost use lib.Dec.{leb};
+ghost use Prim.Native.Nat.{_<_};
 ghost use Rattle.tctl.specs.Formula.{atMost, atLeast};
-ghost use Rattle.model.specs.Engine.{num};
-ghost use Rattle.model.specs.Decide.{ask, someRow, waits};
+ghost use Rattle.model.specs.Decide.{ask, someRow};
 ghost use Rattle.model.specs.Marks.{mark};
 ghost use Rattle.chart.specs.Bytes.{chartOf};
-ghost use Rattle.model.specs.Weighed.{weighed};
-ghost use Rattle.ways.specs.Way.{highest};
 ghost use Rattle.fill.specs.Written.{RowWritten};
 ghost use Rattle.until_start.specs.Lent.{Lent, OperandsBelow};
 use fill::Initial;
@@ -80,42 +76,4 @@ pub fn some_at_least(
         numbers,
     );
     fill::fill_limit(true, node.c, n, t, numbers, marks);
-}
-
-// The states from which no run fails the until, or waits for it, up to a limit of minutes or of ticks.
-pub fn unhindered(
-    ticks: bool,
-    limit: u32,
-    chart: &[u8],
-    n: usize,
-    m: usize,
-    t: usize,
-    node: NodeWords,
-    marks: &mut [u8],
-    numbers: &mut [u32],
-)
-    requires { ⌜ Lent (now chart) n m t (now marks) (now numbers) × OperandsBelow t node × (suc limit ≤ highest) ⌝ }
-    ensures { λ _. ⌜ RowWritten n t
-        (λ s. leb (num (waits (weighed ticks (chartOf (now (chart .entry)) .arrows)) n limit
-        (mark n (now (marks .entry)) (node .a)) (mark n (now (marks .entry)) (node .b))) s) limit)
-        (now (marks .entry)) (now (marks .exit)) ⌝ }
-{
-    let cap = limit + 1;
-    let way = Way::Raise(Climb {
-        ticks,
-        leap: false,
-        cap,
-    });
-    until_start::run_from(
-        Initial::Fail(cap),
-        way,
-        chart,
-        n,
-        m,
-        t,
-        node,
-        marks,
-        numbers,
-    );
-    fill::fill_limit(false, limit, n, t, numbers, marks);
 }

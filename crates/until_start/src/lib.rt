@@ -1,13 +1,22 @@
-// The engine on an until: from the operands' marks, with row t lent to it meanwhile.
+// The engine on an until: from the operands' marks, with row t lent to it meanwhile; and the states from which no run
+// fails the until or waits for it.
 ghost use mathlib.Core.Bool.{Bool};
-ghost use Prim.Native.Nat.{ℕ};
+ghost use Prim.Native.Nat.{ℕ, suc, _≤_};
+ghost use lib.Dec.{leb};
 ghost use Rattle.model.specs.Marks.{mark};
+ghost use Rattle.model.specs.Engine.{num};
+ghost use Rattle.model.specs.Decide.{waits};
+ghost use Rattle.model.specs.Weighed.{weighed};
+ghost use Rattle.chart.specs.Bytes.{chartOf};
+ghost use Rattle.ways.specs.Way.{highest};
 ghost use Rattle.visits.specs.Moves.{Ready};
 ghost use Rattle.engine.specs.AsModel.{AsModel};
+ghost use Rattle.fill.specs.Written.{RowWritten};
 ghost use Rattle.until_start.specs.Lent.{Lent, OperandsBelow, Able, Besides};
 ghost use Rattle.until_start.specs.Risen.{Suits, Risen};
 use fill::Initial;
 use rule::NodeWords;
+use ways::Climb;
 use ways::Way;
 
 // The engine, to which row t is lent and which leaves it as anything.
@@ -49,4 +58,42 @@ pub fn run_from(
 {
     fill::fill_numbers(initial, n, node.a, node.b, marks, numbers);
     run(way, chart, n, m, t, marks, numbers);
+}
+
+// The states from which no run fails the until, or waits for it, up to a limit of minutes or of ticks.
+pub fn unhindered(
+    ticks: bool,
+    limit: u32,
+    chart: &[u8],
+    n: usize,
+    m: usize,
+    t: usize,
+    node: NodeWords,
+    marks: &mut [u8],
+    numbers: &mut [u32],
+)
+    requires { ⌜ Lent (now chart) n m t (now marks) (now numbers) × OperandsBelow t node × (suc limit ≤ highest) ⌝ }
+    ensures { λ _. ⌜ RowWritten n t
+        (λ s. leb (num (waits (weighed ticks (chartOf (now (chart .entry)) .arrows)) n limit
+        (mark n (now (marks .entry)) (node .a)) (mark n (now (marks .entry)) (node .b))) s) limit)
+        (now (marks .entry)) (now (marks .exit)) ⌝ }
+{
+    let cap = limit + 1;
+    let way = Way::Raise(Climb {
+        ticks,
+        leap: false,
+        cap,
+    });
+    run_from(
+        Initial::Fail(cap),
+        way,
+        chart,
+        n,
+        m,
+        t,
+        node,
+        marks,
+        numbers,
+    );
+    fill::fill_limit(false, limit, n, t, numbers, marks);
 }

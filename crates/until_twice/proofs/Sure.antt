@@ -25,7 +25,7 @@ use Rattle.fill.specs.Written.{Filled}
 use Rattle.fill.proofs.Choice.{cond-le}
 use Rattle.fill.proofs.Sided.{Begun, filled-begun}
 use Rattle.until_twice.specs.Starts.{sureStart}
-use Rattle.until_once.proofs.Untils.{answers, left-at, at-least-left, left-tabulated}
+use Rattle.until_start.proofs.Waits.{answers, left-at, at-least-left, left-tabulated}
 
 -- c minutes where p holds and every arrow leads well, else 0
 left-sure :

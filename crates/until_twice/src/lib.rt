@@ -31,7 +31,7 @@ fn sure_start(
         (mark n (now (marks .entry)) (node .a)) (mark n (now (marks .entry)) (node .b)) (node .c)
         (now (numbers .exit)) ⌝ }
 {
-    until_once::unhindered(true, n as u32, chart, n, m, t, node, marks, numbers);
+    until_start::unhindered(true, n as u32, chart, n, m, t, node, marks, numbers);
     let at = t * n;
     let end = at + n;
     if fill::all_are(0, &marks[at..end]) {

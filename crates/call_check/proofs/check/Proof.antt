@@ -8,7 +8,7 @@ use native.Mathlib.Omega.{arith}
 use denote.Ref.{now}
 use Rattle.chart.proofs.WellFormed.{well-formed}
 use Rattle.rule.proofs.Accepted.{accepted}
-use Rattle.call_check.specs.Check.{scratchSize}
+use Rattle.room.specs.Room.{scratchSize}
 use Rattle.call_check.proofs.Chain.{Admitted, input-passes}
 use Rattle.call_check.proofs.Scratch.{used-size, used-front, cleared-front}
 use Rattle.call_check.proofs.Answers.{refused-checked, judged-checked}

@@ -9,7 +9,7 @@ use Rattle.model.specs.Marks.{mark}
 use Rattle.chart.proofs.Reading.{shaped}
 use Rattle.until_start.proofs.Rows.{written-as, lent-written, unmarked, lower-row}
 use Rattle.until_start.proofs.Lent.{joins, rows-inside}
-use Rattle.until_once.proofs.Untils.{plain-answers}
+use Rattle.until_start.proofs.Waits.{plain-answers}
 use Rattle.until_twice.proofs.Sure.{starts-sure}
 use Rattle.until_twice.proofs.sure_start.Statement.{statement}
 use Rattle.until_twice.proofs.sure_start.Tie as tie

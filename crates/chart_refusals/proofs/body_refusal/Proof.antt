@@ -1,0 +1,33 @@
+-- Rows 7 to 9 by parts: where rows 7 and 8 are passed, the sets decide row 9.
+use mathlib.Core.List.{[], _∷_}
+use borrow.Author.Needs.{needs}
+use denote.Ref.{now}
+use Rattle.outcome.proofs.First.{part-refuses, part-passes}
+use Rattle.chart.specs.Rows.{arrowRows, stateRow}
+use Rattle.chart_refusals.proofs.body_refusal.Statement.{statement}
+use Rattle.chart_refusals.proofs.body_refusal.Tie as tie
+
+returns : tie.Need-returns
+returns c =
+    let pass = c .before .before .before in
+    let a = pass .before .before .args in
+    let s = now (a .chart) in
+    part-refuses (arrowRows s (a .n) (a .m)) (stateRow s (a .n) (a .m) ∷ []) (pass .seen-arrows .ensures .0)
+    (c .if1 .taken)
+
+state-refusal-requires : tie.Need-state-refusal-requires
+state-refusal-requires c κs = c .before .before .before .before .before .before .pre .few-states
+
+returns-2 : tie.Need-returns-2
+returns-2 c =
+    let test = c .before .before in
+    let pass = test .before .before .before in
+    let a = pass .before .before .args in
+    let s = now (a .chart) in
+    let seen = pass .seen-arrows .ensures in
+    part-passes (arrowRows s (a .n) (a .m)) (stateRow s (a .n) (a .m) ∷ []) tt (seen .0) (test .if1 .left)
+    (c .state-refusal .ensures s (a .m) (seen .1 (test .if1 .left)))
+
+pub body-refusal-spec : {M : Type 1} → statement M
+body-refusal-spec =
+    tie.close (tie.spec (λ c κs. search needs) returns state-refusal-requires returns-2)
