@@ -16,15 +16,21 @@ Inv-loop numbers s₀ s = (s ≤ length numbers) × ((k : ℕ) → k < s → tes
 abbrev μ-loop : tie.MeasureT-loop
 μ-loop numbers s₀ s = length numbers - s
 
+-- the stops: where the own number was read, and the loop's head
+abbrev own : tie.After-tested2 Inv-loop μ-loop → tie.After-tested Inv-loop μ-loop
+own c = c .before .before
+
+abbrev loop : tie.After-tested Inv-loop μ-loop → tie.At-loop Inv-loop μ-loop
+loop c = c .before .before .before
+
 loop-holds : tie.Need-loop-holds Inv-loop μ-loop
 loop-holds c = (omega arith, λ k l. absurd (let z : ⊥ = omega arith in z))
 
 loop-again : tie.Need-loop-again Inv-loop μ-loop
 loop-again c =
     let first = c .before in
-    let own = first .before .before in
-    let inv = own .before .before .before .loop .inv in
-    (omega arith, below-more _ _ (inv .1) (sym (own .tested .ensures) ∙ c .if1 .left ∙ first .tested2 .ensures))
+    let inv = loop (own first) .loop .inv in
+    (omega arith, below-more _ _ (inv .1) (sym (own first .tested .ensures) ∙ c .if1 .left ∙ first .tested2 .ensures))
 
 pub all-alike-spec : {M : Type 1} → statement M
 all-alike-spec =

@@ -15,14 +15,17 @@ Inv-loop numbers s₀ s = (s ≤ length numbers) × ((k : ℕ) → k < s → rad
 abbrev μ-loop : tie.MeasureT-loop
 μ-loop numbers s₀ s = length numbers - s
 
+-- the loop's head
+abbrev loop : tie.After-tested Inv-loop μ-loop → tie.At-loop Inv-loop μ-loop
+loop c = c .before .before .before
+
 loop-holds : tie.Need-loop-holds Inv-loop μ-loop
 loop-holds c = (omega arith, λ k l. absurd (let z : ⊥ = omega arith in z))
 
 loop-again : tie.Need-loop-again Inv-loop μ-loop
 loop-again c =
     let tested = c .before in
-    let inv = tested .before .before .before .loop .inv in
-    (omega arith, below-more _ _ (inv .1) (omega (arith, tested .tested .ensures, c .if1 .left)))
+    (omega arith, below-more _ _ (loop tested .loop .inv .1) (omega (arith, tested .tested .ensures, c .if1 .left)))
 
 pub all-sided-spec : {M : Type 1} → statement M
 all-sided-spec =

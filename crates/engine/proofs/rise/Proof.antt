@@ -24,8 +24,11 @@ Inv-loop way chart n m row₀ numbers₀ done₀ seen₀ floor₀ row numbers do
 abbrev μ-loop : tie.MeasureT-loop
 μ-loop way chart n m row₀ numbers₀ done₀ seen₀ floor₀ row numbers done seen floor = left way (values numbers)
 
--- the stops, from the last: after a sweep, where its floor is known, after the hints, where the pace is known, the
+-- the stops, from the last: where a sweep tells if it changed a value, after it, where its floor is known, after the hints, where the pace is known, the
 -- loop's head, and the start
+abbrev told : tie.After-counted Inv-loop μ-loop → tie.After-struct-known Inv-loop μ-loop
+told c = c .before .before
+
 abbrev swept : tie.After-struct-known Inv-loop μ-loop → tie.After-sweep Inv-loop μ-loop
 swept c = c .before .before .before
 
@@ -38,14 +41,23 @@ rested c = c .before .before
 abbrev ran : tie.After-at-rest Inv-loop μ-loop → tie.After-along Inv-loop μ-loop
 ran c = c .before .before .before .before .before .before
 
+abbrev hurried : tie.After-along-arg2 Inv-loop μ-loop → tie.After-hurried Inv-loop μ-loop
+hurried c = c .before .before
+
 abbrev paced : tie.After-along Inv-loop μ-loop → tie.After-hurried Inv-loop μ-loop
-paced c = c .before .before .before
+paced c = hurried (c .before)
 
 abbrev head : tie.After-along Inv-loop μ-loop → tie.At-loop Inv-loop μ-loop
 head c = paced c .before
 
+abbrev turn : tie.After-struct-known Inv-loop μ-loop → tie.At-loop Inv-loop μ-loop
+turn c = head (ran (rested (floored (swept c))))
+
+abbrev entry : tie.After-slice-known2 Inv-loop μ-loop → tie.Start Inv-loop μ-loop
+entry c = c .before .before .before
+
 abbrev start : tie.At-loop Inv-loop μ-loop → tie.Start Inv-loop μ-loop
-start c = c .before .before .before .before
+start c = entry (c .before)
 
 given :
     (c : tie.After-hurried Inv-loop μ-loop) → {ns : List ℕ} → length ns ≡ start (c .before) .args .n →
@@ -58,7 +70,7 @@ given c {ns} e =
 
 loop-holds : tie.Need-loop-holds Inv-loop μ-loop
 loop-holds c =
-    let p = c .before .before .before .pre in (
+    let p = entry c .pre in (
       omega arith,
       omega arith,
       p .wide,
@@ -68,8 +80,8 @@ loop-holds c =
 
 along-requires : tie.Need-along-requires Inv-loop μ-loop
 along-requires c κs =
-    let inv = c .before .before .before .loop .inv in
-    (given (c .before .before) (inv .3), inv .2)
+    let inv = hurried c .before .loop .inv in
+    (given (hurried c) (inv .3), inv .2)
 
 returns : tie.Need-returns Inv-loop μ-loop
 returns c go r =
@@ -107,7 +119,7 @@ returns-2 c go r =
 
 loop-less : tie.Need-loop-less Inv-loop μ-loop
 loop-less c =
-    let sweep = swept (c .before .before) in
+    let sweep = swept (told c) in
     let floor = floored sweep in
     let along = ran (rested floor) in
     let inv = head along .loop .inv in
@@ -123,7 +135,7 @@ loop-less c =
 
 loop-again : tie.Need-loop-again Inv-loop μ-loop
 loop-again c =
-    let sweep = swept (c .before .before) in
+    let sweep = swept (told c) in
     let floor = floored sweep in
     let along = ran (rested floor) in
     let inv = head along .loop .inv in
@@ -148,10 +160,6 @@ rise-spec =
     (λ c. let at-loop = head (ran (c .before)) in omega (arith, at-loop .loop .inv .2, start at-loop .pre .wide))
     (λ c. let at-loop = head (ran (c .before)) in omega (arith, at-loop .loop .inv .3, start at-loop .pre .given .size))
     returns (λ c κs. tt) sweep-requires
-    (λ c.
-    let at-loop = head (ran (rested (floored (swept (c .before))))) in
-    omega (arith, at-loop .loop .inv .2, start at-loop .pre .wide))
-    (λ c.
-    let at-loop = head (ran (rested (floored (swept (c .before))))) in
-    omega (arith, at-loop .loop .inv .3, start at-loop .pre .given .size))
-    returns-2 (λ c κs. head (ran (rested (floored (swept (c .before))))) .loop .inv .0) loop-less loop-again)
+    (λ c. let at-loop = turn (c .before) in omega (arith, at-loop .loop .inv .2, start at-loop .pre .wide))
+    (λ c. let at-loop = turn (c .before) in omega (arith, at-loop .loop .inv .3, start at-loop .pre .given .size))
+    returns-2 (λ c κs. turn (c .before) .loop .inv .0) loop-less loop-again)

@@ -4,7 +4,10 @@ use Rattle.engine.proofs.OnTheWay.{way-none, way-rest}
 use Rattle.engine.proofs.settle.Statement.{statement}
 use Rattle.engine.proofs.settle.Tie as tie
 
--- the start
+-- the stops: after the numbers rose, and the start
+abbrev risen : tie.After-slice-known4 → tie.After-rise
+risen c = c .before .before .before .before
+
 abbrev start : tie.After-at-rest → tie.Start
 start c = c .before .before .before .before .before
 
@@ -15,7 +18,7 @@ returns c go r =
     (c .before .at-rest .ensures)
 
 returns-2 : tie.Need-returns-2
-returns-2 c = c .before .before .before .before .rise .ensures
+returns-2 c = risen c .rise .ensures
 
 pub settle-spec : {M : Type 1} → statement M
 settle-spec =

@@ -14,8 +14,12 @@ Inv-loop v row s₀ s = (s ≤ length row) × ((k : ℕ) → k < s → getD row 
 abbrev μ-loop : tie.MeasureT-loop
 μ-loop v row s₀ s = length row - s
 
+-- the loop's head
+abbrev loop : tie.Else1 Inv-loop μ-loop → tie.At-loop Inv-loop μ-loop
+loop c = c .before .before .before
+
 loop-again : tie.Need-loop-again Inv-loop μ-loop
-loop-again c = (omega arith, below-more _ _ (c .before .before .before .loop .inv .1) (omega (arith, c .if1 .left)))
+loop-again c = (omega arith, below-more _ _ (loop c .loop .inv .1) (omega (arith, c .if1 .left)))
 
 pub all-are-spec : {M : Type 1} → statement M
 all-are-spec =

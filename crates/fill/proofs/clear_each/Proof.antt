@@ -15,39 +15,39 @@ Inv-loop chart n m good numbers₀ i₀ numbers i = (i ≤ m) × Cleared chart g
 abbrev μ-loop : tie.MeasureT-loop
 μ-loop chart n m good numbers₀ i₀ numbers i = m - i
 
-loop-holds : tie.Need-loop-holds Inv-loop μ-loop
-loop-holds c = (omega arith, cleared-none)
-
--- where an arrow was read, from each stop after it, and the start
+-- the stops: where the full number is known, where the arrow was read, the loop's head, and the start
 abbrev full : tie.After-either Inv-loop μ-loop → tie.After-retested Inv-loop μ-loop
 full c = c .before .before
 
-abbrev read : tie.After-either Inv-loop μ-loop → tie.After-arrow Inv-loop μ-loop
-read c = full c .before .before
+abbrev read : tie.After-retested Inv-loop μ-loop → tie.After-arrow Inv-loop μ-loop
+read c = c .before .before
+
+abbrev loop : tie.After-arrow Inv-loop μ-loop → tie.At-loop Inv-loop μ-loop
+loop c = c .before .before
 
 abbrev start : tie.At-loop Inv-loop μ-loop → tie.Start Inv-loop μ-loop
 start c = c .before .before .before .before
 
-module _ (c : tie.After-arrow Inv-loop μ-loop) where
-  abbrev loop : tie.At-loop Inv-loop μ-loop
-  loop = c .before .before
+loop-holds : tie.Need-loop-holds Inv-loop μ-loop
+loop-holds c = (omega arith, cleared-none)
 
+module _ (c : tie.After-arrow Inv-loop μ-loop) where
   -- the arrow starts and ends at states
-  starts : c .arrow .result .start < length (loop .loop .numbers)
-  starts = omega (arith, c .arrow .ensures .1 .start, loop .loop .inv .1 .size, start loop .pre .2)
+  starts : c .arrow .result .start < length (loop c .loop .numbers)
+  starts = omega (arith, c .arrow .ensures .1 .start, loop c .loop .inv .1 .size, start (loop c) .pre .2)
 
   -- a state's place in memory
   fits : Fits w64 (c .arrow .result .start * 4)
-  fits = omega (arith, c .arrow .ensures .1 .start, shaped (start loop .pre .0) .few-states)
+  fits = omega (arith, c .arrow .ensures .1 .start, shaped (start (loop c) .pre .0) .few-states)
 
 shared-slice-read-either : tie.Need-shared-slice-read-either Inv-loop μ-loop
 shared-slice-read-either c =
-    let arrow = c .before .before .before in
+    let arrow = read (c .before) in
     omega (arith, arrow .arrow .ensures .1 .end, start (loop arrow) .pre .1)
 
 loop-again : tie.Need-loop-again Inv-loop μ-loop
 loop-again c =
-    let arrow = read c in (
+    let arrow = read (full c) in (
       omega arith,
       cleared-more (c .either .result) (loop arrow .loop .inv .1) (arrow .arrow .ensures .0) (starts arrow)
           (chosen (c .either .ensures) (full c .retested .ensures)),
@@ -66,5 +66,5 @@ clear-each-spec =
     tie.close
     (tie.spec Inv-loop μ-loop loop-holds
     (λ c κs. (start (c .before) .pre .0, c .loop-test .taken)) fits (λ c. starts (c .before))
-    (λ c. omega arith) (λ c κs. omega arith) shared-slice-read-either (λ c κs. tt) (λ c. fits (read c))
-    (λ c. starts (read c)) (λ c. omega arith) (λ c. omega arith) loop-again same-length returns)
+    (λ c. omega arith) (λ c κs. omega arith) shared-slice-read-either (λ c κs. tt) (λ c. fits (read (full c)))
+    (λ c. starts (read (full c))) (λ c. omega arith) (λ c. omega arith) loop-again same-length returns)

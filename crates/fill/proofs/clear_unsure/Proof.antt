@@ -5,12 +5,15 @@ use Rattle.fill.proofs.Cleared.{sured-all}
 use Rattle.fill.proofs.clear_unsure.Statement.{statement}
 use Rattle.fill.proofs.clear_unsure.Tie as tie
 
+-- the start
+abbrev start : tie.After-all-are → tie.Start
+start c = c .before .before .before .before
+
 returns : tie.Need-returns
 returns c =
     let tried = c .before in
-    let start = tried .before .before .before .before in
-    let p = start .pre in
-    sured-all (now (start .args .good)) (p .0) (p .1) (p .2) (tried .all-are .ensures (c .if1 .taken))
+    let p = start tried .pre in
+    sured-all (now (start tried .args .good)) (p .0) (p .1) (p .2) (tried .all-are .ensures (c .if1 .taken))
 
 pub clear-unsure-spec : {M : Type 1} → statement M
 clear-unsure-spec =

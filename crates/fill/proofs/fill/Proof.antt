@@ -18,15 +18,24 @@ Inv-loop connective n t a b marks₀ at left right s₀ marks s =
 abbrev μ-loop : tie.MeasureT-loop
 μ-loop connective n t a b marks₀ at left right s₀ marks s = n - s
 
+-- the stops: a turn, where the loop is entered, and the start
+abbrev turn : tie.After-slice-known3 Inv-loop μ-loop → tie.In-loop Inv-loop μ-loop
+turn c = c .before .before
+
+abbrev entered : tie.In-loop Inv-loop μ-loop → tie.After-slice-known Inv-loop μ-loop
+entered c = c .before .before
+
+abbrev start : tie.After-slice-known Inv-loop μ-loop → tie.Start Inv-loop μ-loop
+start c = c .before
+
 -- the rows of both operands begin no later than row t
 operands :
     (c : tie.After-slice-known Inv-loop μ-loop) →
-    let args = c .before .args in
+    let args = start c .args in
     (args .a * args .n ≤ args .t * args .n) × (args .b * args .n ≤ args .t * args .n)
 operands c =
-    let start = c .before in
-    let n = start .args .n in
-    (mul-le-mul-right n (start .pre .1), mul-le-mul-right n (start .pre .2))
+    let n = start c .args .n in
+    (mul-le-mul-right n (start c .pre .1), mul-le-mul-right n (start c .pre .2))
 
 mul-left : tie.Need-mul-left Inv-loop μ-loop
 mul-left c = omega (arith, operands c)
@@ -38,25 +47,25 @@ loop-holds : tie.Need-loop-holds Inv-loop μ-loop
 loop-holds c = (omega arith, written-none)
 
 add-p : tie.Need-add-p Inv-loop μ-loop
-add-p c = omega (arith, operands (c .before .before))
+add-p c = omega (arith, operands (entered c))
 
 slice-read-p : tie.Need-slice-read-p Inv-loop μ-loop
-slice-read-p c = omega (arith, operands (c .before .before .before))
+slice-read-p c = omega (arith, operands (entered (c .before)))
 
 add-q : tie.Need-add-q Inv-loop μ-loop
-add-q c = omega (arith, operands (c .before .before .before))
+add-q c = omega (arith, operands (entered (c .before)))
 
 slice-read-q : tie.Need-slice-read-q Inv-loop μ-loop
-slice-read-q c = omega (arith, operands (c .before .before .before .before))
+slice-read-q c = omega (arith, operands (entered (turn c)))
 
 loop-again : tie.Need-loop-again Inv-loop μ-loop
 loop-again c =
-    let in-loop = c .before .before .before in
+    let in-loop = turn (c .before) in
     let w = in-loop .before .loop .inv .1 in
-    let start = in-loop .before .before .before in
-    let p = row-next (start .pre .1) (in-loop .loop-test .taken) w in
-    let q = row-next (start .pre .2) (in-loop .loop-test .taken) w in
-    let e = c .combined .ensures ∙ ap₂ (λ x y. combine (start .args .connective) (eqb x 1) (eqb y 1)) p q in
+    let begun = start (entered in-loop) in
+    let p = row-next (begun .pre .1) (in-loop .loop-test .taken) w in
+    let q = row-next (begun .pre .2) (in-loop .loop-test .taken) w in
+    let e = c .combined .ensures ∙ ap₂ (λ x y. combine (begun .args .connective) (eqb x 1) (eqb y 1)) p q in
     (omega arith, written-more w (omega arith) e)
 
 same-length : tie.Need-same-length Inv-loop μ-loop

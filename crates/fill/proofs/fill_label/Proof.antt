@@ -16,14 +16,20 @@ Inv-loop chart n i t marks₀ at s₀ marks s =
 abbrev μ-loop : tie.MeasureT-loop
 μ-loop chart n i t marks₀ at s₀ marks s = n - s
 
+-- the stops: the loop's head, and the start
+abbrev loop : tie.After-label-word Inv-loop μ-loop → tie.At-loop Inv-loop μ-loop
+loop c = c .before .before
+
+abbrev start : tie.At-loop Inv-loop μ-loop → tie.Start Inv-loop μ-loop
+start c = c .before .before .before
+
 loop-holds : tie.Need-loop-holds Inv-loop μ-loop
 loop-holds c = (omega arith, written-none)
 
 loop-again : tie.Need-loop-again Inv-loop μ-loop
 loop-again c =
-    let at-loop = c .before .before in
-    let start = at-loop .before .before .before in
-    let e = ap (λ w. eqb (w / 2 ^ start .args .i % 2) 1) (c .label-word .ensures .0) in
+    let at-loop = loop c in
+    let e = ap (λ w. eqb (w / 2 ^ start at-loop .args .i % 2) 1) (c .label-word .ensures .0) in
     (omega arith, written-more (at-loop .loop .inv .1) (omega arith) e)
 
 same-length : tie.Need-same-length Inv-loop μ-loop

@@ -17,15 +17,22 @@ Inv-loop above limit n t numbers marks₀ at s₀ marks s =
 abbrev μ-loop : tie.MeasureT-loop
 μ-loop above limit n t numbers marks₀ at s₀ marks s = n - s
 
+-- the stops: the loop's head, and the start
+abbrev loop : tie.After-value Inv-loop μ-loop → tie.At-loop Inv-loop μ-loop
+loop c = c .before .before .before
+
+abbrev start : tie.At-loop Inv-loop μ-loop → tie.Start Inv-loop μ-loop
+start c = c .before .before .before
+
 loop-holds : tie.Need-loop-holds Inv-loop μ-loop
 loop-holds c = (omega arith, written-none)
 
 loop-again : tie.Need-loop-again Inv-loop μ-loop
 loop-again c =
     let read = c .before in
-    let at-loop = read .before .before .before in
-    let start = at-loop .before .before .before in
-    let e = ap (passesLimit (start .args .above) (start .args .limit)) (read .value .ensures) in
+    let at-loop = loop read in
+    let a = start at-loop .args in
+    let e = ap (passesLimit (a .above) (a .limit)) (read .value .ensures) in
     (omega arith, written-more (at-loop .loop .inv .1) (omega arith) (c .passes-limit .ensures ∙ e))
 
 same-length : tie.Need-same-length Inv-loop μ-loop

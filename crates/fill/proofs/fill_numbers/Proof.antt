@@ -20,14 +20,18 @@ Inv-loop n a b marks numbers₀ left right four s₀ numbers s =
 abbrev μ-loop : tie.MeasureT-loop
 μ-loop n a b marks numbers₀ left right four s₀ numbers s = n - s
 
+-- the stops: the loop's head, and the start
 abbrev at-loop : tie.After-one-of Inv-loop μ-loop → tie.At-loop Inv-loop μ-loop
 at-loop c = c .before .before .before .before .before
 
+abbrev start : tie.After-slice-known Inv-loop μ-loop → tie.Start Inv-loop μ-loop
+start c = c .before .before
+
 four-of-requires : tie.Need-four-of-requires Inv-loop μ-loop
-four-of-requires c κs = c .before .before .pre .1
+four-of-requires c κs = start c .pre .1
 
 loop-holds : tie.Need-loop-holds Inv-loop μ-loop
-loop-holds c = (omega arith, c .before .before .before .pre .0 .0, below-none _)
+loop-holds c = (omega arith, start (c .before) .pre .0 .0, below-none _)
 
 anew-requires : tie.Need-anew-requires Inv-loop μ-loop
 anew-requires c κs =
@@ -45,11 +49,11 @@ loop-again c =
 
 returns : tie.Need-returns Inv-loop μ-loop
 returns c =
-    let start = c .before in
-    let inv = start .loop .inv in
+    let ended = c .before in
+    let inv = ended .loop .inv in
     record {
       size = inv .1;
-      here = λ v l. inv .2 v (omega arith) ∙ start .before .four-of .ensures .each _ _ .is;
+      here = λ v l. inv .2 v (omega arith) ∙ ended .before .four-of .ensures .each _ _ .is;
     }
 
 pub fill-numbers-spec : {M : Type 1} → statement M

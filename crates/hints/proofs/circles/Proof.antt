@@ -20,8 +20,11 @@ abbrev μ-loop : tie.MeasureT-loop
 μ-loop chart n m most numbers r at₀ passes₀ k₀ at passes k = most - k
 
 -- the stops of a round, each from a later one, and the start
+abbrev entry : tie.After-shared-slice-known2 Inv-loop μ-loop → tie.Start Inv-loop μ-loop
+entry c = c .before .before
+
 abbrev start : tie.At-loop Inv-loop μ-loop → tie.Start Inv-loop μ-loop
-start c = c .before .before .before
+start c = entry (c .before)
 
 abbrev hinted : tie.Else1 Inv-loop μ-loop → tie.After-hint Inv-loop μ-loop
 hinted c = c .before
@@ -29,14 +32,20 @@ hinted c = c .before
 abbrev loop : tie.Else1 Inv-loop μ-loop → tie.At-loop Inv-loop μ-loop
 loop c = hinted c .before .before .before
 
+abbrev marked : tie.After-time-passes Inv-loop μ-loop → tie.After-tested Inv-loop μ-loop
+marked c = c .before .before
+
+abbrev own : tie.After-time-passes Inv-loop μ-loop → tie.Else2 Inv-loop μ-loop
+own c = marked c .before
+
 abbrev read : tie.After-time-passes Inv-loop μ-loop → tie.After-arrow Inv-loop μ-loop
-read c = c .before .before .before .before .before
+read c = own c .before .before
 
 abbrev inside : tie.After-time-passes Inv-loop μ-loop → tie.Else1 Inv-loop μ-loop
 inside c = read c .before
 
 loop-holds : tie.Need-loop-holds Inv-loop μ-loop
-loop-holds c = (omega arith, c .before .before .pre .2, λ go opens. led-none)
+loop-holds c = (omega arith, entry c .pre .2, λ go opens. led-none)
 
 returns : tie.Need-returns Inv-loop μ-loop
 returns c = λ go opens e. absurd (false≢true e)
@@ -57,8 +66,6 @@ more :
     (go : ℕ → Bool) → Open go (now (a .numbers)) →
     Led (chartOf (now (a .chart))) go (a .r) (read c .arrow .result .end) (c .time-passes .result)
 more c =
-    let bared = c .before in
-    let left = bared .before .before in
     let at-loop = loop (inside c) in
     let begun = start at-loop in
     let chart = now (begun .args .chart) in
@@ -69,9 +76,9 @@ more c =
     let mem = subst (λ v. List·Memᴰ (arrowOf v) (chartOf chart .arrows)) (sym e) (arrow-mem chart i l) in
     let at = at-loop .loop .at in
     λ go opens.
-    led-more (at-loop .loop .inv .2 go opens) w mem (left .if2 .left)
+    led-more (at-loop .loop .inv .2 go opens) w mem (own c .if2 .left)
     (opens at (omega (arith, at-loop .loop .inv .1, begun .pre .1))
-    (omega (arith, bared .before .tested .ensures, bared .if3 .left))) (c .time-passes .ensures)
+    (omega (arith, marked c .tested .ensures, c .before .if3 .left))) (c .time-passes .ensures)
 
 returns-4 : tie.Need-returns-4 Inv-loop μ-loop
 returns-4 c = λ go opens. led-round (more (c .before) go opens) (c .if4 .taken)

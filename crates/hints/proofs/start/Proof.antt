@@ -14,8 +14,11 @@ abbrev μ-loop : tie.MeasureT-loop
 μ-loop chart n m numbers₀ i₀ numbers i = m - i
 
 -- the stops, each from a later one: the start, the loop's, and where an arrow was read
+abbrev entry : tie.After-slice-known Inv-loop μ-loop → tie.Start Inv-loop μ-loop
+entry c = c .before .before
+
 abbrev begun : tie.At-loop Inv-loop μ-loop → tie.Start Inv-loop μ-loop
-begun c = c .before .before .before
+begun c = entry (c .before)
 
 abbrev loop : tie.After-arrow Inv-loop μ-loop → tie.At-loop Inv-loop μ-loop
 loop c = c .before .before
@@ -24,7 +27,7 @@ abbrev read : tie.After-hinted Inv-loop μ-loop → tie.After-arrow Inv-loop μ-
 read c = c .before
 
 loop-holds : tie.Need-loop-holds Inv-loop μ-loop
-loop-holds c = (omega arith, c .before .before .pre .1)
+loop-holds c = (omega arith, entry c .pre .1)
 
 hinted-requires : tie.Need-hinted-requires Inv-loop μ-loop
 hinted-requires c κs =

@@ -11,12 +11,18 @@ Inv-loop way chart n m floor k numbers i₀ i = Quiet way chart floor i k number
 abbrev μ-loop : tie.MeasureT-loop
 μ-loop way chart n m floor k numbers i₀ i = i
 
--- the start
+-- the stops: a turn, and the start from where the loop is entered and from its head
+abbrev turn : tie.After-raises Inv-loop μ-loop → tie.In-loop Inv-loop μ-loop
+turn c = c .before
+
+abbrev entry : tie.After-shared-slice-known2 Inv-loop μ-loop → tie.Start Inv-loop μ-loop
+entry c = c .before .before
+
 abbrev start : tie.At-loop Inv-loop μ-loop → tie.Start Inv-loop μ-loop
-start c = c .before .before .before
+start c = entry (c .before)
 
 loop-holds : tie.Need-loop-holds Inv-loop μ-loop
-loop-holds c = quiet-none (c .before .before .pre .1)
+loop-holds c = quiet-none (entry c .pre .1)
 
 raises-requires : tie.Need-raises-requires Inv-loop μ-loop
 raises-requires c κs =
@@ -24,13 +30,13 @@ raises-requires c κs =
 
 returns : tie.Need-returns Inv-loop μ-loop
 returns c =
-    let turn = c .before .before in
-    quiet-from (turn .before .loop .inv) (omega (arith, turn .loop-test .taken))
+    let at = turn (c .before) in
+    quiet-from (at .before .loop .inv) (omega (arith, at .loop-test .taken))
 
 loop-again : tie.Need-loop-again Inv-loop μ-loop
 loop-again c =
     let tried = c .before in
-    quiet-more (tried .before .loop-test .taken) (tried .before .before .loop .inv) (tried .raises .ensures (c .if1 .left))
+    quiet-more (turn tried .loop-test .taken) (turn tried .before .loop .inv) (tried .raises .ensures (c .if1 .left))
 
 pub last-raising-spec : {M : Type 1} → statement M
 last-raising-spec =

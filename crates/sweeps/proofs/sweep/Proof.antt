@@ -20,18 +20,25 @@ Inv-loop way floor chart n m numbers₀ first any₀ last₀ i₀ numbers any la
 abbrev μ-loop : tie.MeasureT-loop
 μ-loop way floor chart n m numbers₀ first any₀ last₀ i₀ numbers any last i = i
 
--- the stops: where an arrow was tried, the loop's head, where the first was looked for, and the start
+-- the stops: where an arrow was tried, its turn, the loop's head, where the first was looked for, and the start from
+-- after and from before that
 abbrev tried : tie.After-last-raising-arg2 Inv-loop μ-loop → tie.After-renew Inv-loop μ-loop
 tried c = c .before .before .before
 
-abbrev head : tie.After-renew Inv-loop μ-loop → tie.At-loop Inv-loop μ-loop
-head c = c .before .before .before
+abbrev turn : tie.After-renew Inv-loop μ-loop → tie.In-loop Inv-loop μ-loop
+turn c = c .before .before
+
+abbrev head : tie.In-loop Inv-loop μ-loop → tie.At-loop Inv-loop μ-loop
+head c = c .before
 
 abbrev found : tie.At-loop Inv-loop μ-loop → tie.After-last-raising Inv-loop μ-loop
 found c = c .before .before
 
+abbrev entry : tie.After-last-raising-arg Inv-loop μ-loop → tie.Start Inv-loop μ-loop
+entry c = c .before .before .before
+
 abbrev start : tie.After-last-raising Inv-loop μ-loop → tie.Start Inv-loop μ-loop
-start c = c .before .before .before .before
+start c = entry (c .before)
 
 returns : tie.Need-returns Inv-loop μ-loop
 returns c =
@@ -47,13 +54,13 @@ loop-holds c =
 
 renew-requires : tie.Need-renew-requires Inv-loop μ-loop
 renew-requires c κs =
-    let at-loop = c .before .before in
+    let at-loop = head (c .before) in
     let inv = at-loop .loop .inv in
     (given-still (start (found at-loop) .pre .0) (inv .1), omega (arith, inv .0, inv .3 .inside, c .before .loop-test .taken))
 
 last-raising-requires-2 : tie.Need-last-raising-requires-2 Inv-loop μ-loop
 last-raising-requires-2 c κs =
-    let at-loop = head (tried c) in
+    let at-loop = head (turn (tried c)) in
     let inv = at-loop .loop .inv in (
       given-still (start (found at-loop) .pre .0) (omega (arith, inv .1)),
       omega arith,
@@ -61,18 +68,18 @@ last-raising-requires-2 c κs =
     )
 
 loop-less : tie.Need-loop-less Inv-loop μ-loop
-loop-less c = omega (arith, c .last-raising2 .ensures .inside, tried (c .before) .before .before .loop-test .taken)
+loop-less c = omega (arith, c .last-raising2 .ensures .inside, turn (tried (c .before)) .loop-test .taken)
 
 loop-again : tie.Need-loop-again Inv-loop μ-loop
 loop-again c =
     let arrow = tried (c .before) in
-    let inv = head arrow .loop .inv in
+    let inv = head (turn arrow) .loop .inv in
     let q = c .last-raising2 .ensures in (
       omega (arith, inv .0, inv .3 .inside),
       omega (arith, inv .1),
       λ go r.
           let t = inv .2 go r in
-          swept-quiet (swept-more (arrow .before .before .loop-test .taken) t (arrow .renew .ensures go (t .went .ready))) q,
+          swept-quiet (swept-more (turn arrow .loop-test .taken) t (arrow .renew .ensures go (t .went .ready))) q,
       q,
     )
 
@@ -87,7 +94,7 @@ returns-2 c =
 pub sweep-spec : {M : Type 1} → statement M
 sweep-spec =
     tie.close
-    (tie.spec Inv-loop μ-loop (λ c κs. let p = c .before .before .before .pre in (p .0, p .1, omega arith))
+    (tie.spec Inv-loop μ-loop (λ c κs. let p = entry c .pre in (p .0, p .1, omega arith))
     (λ c. omega (arith, start (c .before) .pre .0 .size)) returns loop-holds (λ c. omega arith) renew-requires
     last-raising-requires-2 loop-less loop-again
     (λ c. omega (arith, c .before .loop .inv .1, start (found (c .before)) .pre .0 .size)) returns-2)

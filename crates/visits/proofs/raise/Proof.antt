@@ -9,7 +9,10 @@ use Rattle.visits.proofs.Tried.{visit-stays, visit-moves}
 use Rattle.visits.proofs.raise.Statement.{statement}
 use Rattle.visits.proofs.raise.Tie as tie
 
--- the stops: where the offer, the end's value and the arrow are known, and the start
+-- the stops: where the number that is compared, the offer, the end's value and the arrow are known, and the start
+abbrev tested : tie.After-reached → tie.After-tested
+tested c = c .before .before
+
 abbrev offer : tie.After-tested → tie.After-offered
 offer c = c .before .before
 
@@ -36,18 +39,19 @@ returns c =
 
 hinted-requires : tie.Need-hinted-requires
 hinted-requires c κs =
-    let p = start (c .before .before) .pre in
+    let p = start (tested c) .pre in
     (c .reached .ensures .low, omega (arith, shaped (p .0 .passed) .few-arrows, p .1))
 
 returns-2 : tie.Need-returns-2
 returns-2 c =
-    let at = c .before .before .before in
+    let new = c .before in
+    let at = tested new in
     let a = start at .args in
     let w = read at .arrow .ensures in
     λ go r.
     visit-moves (start at .pre .0 .fits) (now (a .chart)) (now (a .numbers)) (a .m) (a .i) (w .0)
     (omega (arith, w .1 .start, start at .pre .0 .size)) (value at .value .ensures) (offer at .offered .ensures) r
-    (omega (arith, at .tested .ensures, c .before .before .if1 .left)) (c .hinted .result) (c .before .reached .ensures)
+    (omega (arith, at .tested .ensures, new .before .if1 .left)) (c .hinted .result) (new .reached .ensures)
     (c .hinted .ensures) (start at .pre .1)
 
 pub raise-spec : {M : Type 1} → statement M

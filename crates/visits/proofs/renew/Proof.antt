@@ -8,7 +8,14 @@ use Rattle.visits.proofs.Tried.{visit-stays}
 use Rattle.visits.proofs.renew.Statement.{statement}
 use Rattle.visits.proofs.renew.Tie as tie
 
--- the stops: after the own hint, where the offer, the end's value and the arrow are known, and the start
+-- the stops: after the arrow, where its offer is compared, after the own hint, where the offer, the end's value and the
+-- arrow are known, and the start
+abbrev new : tie.After-slice-known5 → tie.After-raise
+new c = c .before .before
+
+abbrev tested : tie.After-raise-arg → tie.After-tested
+tested c = c .before .before
+
 abbrev own : tie.After-tested → tie.After-follow
 own c = c .before .before .before .before
 
@@ -43,14 +50,12 @@ returns c go r =
     )
 
 raise-requires : tie.Need-raise-requires
-raise-requires c κs = let p = begun (c .before .before) .pre in (given-still (p .0) (search needs), p .1)
+raise-requires c κs = let p = begun (tested c) .pre in (given-still (p .0) (search needs), p .1)
 
 returns-2 : tie.Need-returns-2
-returns-2 c =
-    let new = c .before .before in
-    λ go r.
-    let first = own (new .before .before .before) .follow .ensures go r in
-    let second = new .raise .ensures go (first .ready) in
+returns-2 c go r =
+    let first = own (tested (new c .before)) .follow .ensures go r in
+    let second = new c .raise .ensures go (first .ready) in
     (went-both first (second .0), held-from (went-below first) (second .1))
 
 pub renew-spec : {M : Type 1} → statement M

@@ -4,8 +4,12 @@ use Rattle.walks.proofs.Runs.{runs-none, runs-goes, runs-any}
 use Rattle.walks.proofs.again.Statement.{statement}
 use Rattle.walks.proofs.again.Tie as tie
 
+-- the stop after the pass
+abbrev passed : tie.After-slice-known2 → tie.After-pass
+passed c = c .before .before
+
 returns : tie.Need-returns
-returns c = runs-any _ _ _ _ _ (runs-goes _ _ _ _ _ (c .before .before .pass .ensures))
+returns c = runs-any _ _ _ _ _ (runs-goes _ _ _ _ _ (passed c .pass .ensures))
 
 returns-2 : tie.Need-returns-2
 returns-2 c = runs-none _ _ _ _ _

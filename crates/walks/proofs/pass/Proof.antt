@@ -15,26 +15,31 @@ Inv-loop way back chart n m numbers₀ any₀ k₀ numbers any k =
 abbrev μ-loop : tie.MeasureT-loop
 μ-loop way back chart n m numbers₀ any₀ k₀ numbers any k = n - k
 
--- the start
+-- the stops: after the visit, the loop's head, and the start
+abbrev called : tie.After-slice-known2 Inv-loop μ-loop → tie.After-follow Inv-loop μ-loop
+called c = c .before .before
+
+abbrev head : tie.After-follow-arg Inv-loop μ-loop → tie.At-loop Inv-loop μ-loop
+head c = c .before .before .before
+
+abbrev entry : tie.After-slice-known Inv-loop μ-loop → tie.Start Inv-loop μ-loop
+entry c = c .before .before
+
 abbrev start : tie.At-loop Inv-loop μ-loop → tie.Start Inv-loop μ-loop
-start c = c .before .before .before
+start c = entry (c .before)
 
 loop-holds : tie.Need-loop-holds Inv-loop μ-loop
-loop-holds c = (omega arith, c .before .before .pre .size, λ go r. went-none r)
+loop-holds c = (omega arith, entry c .pre .size, λ go r. went-none r)
 
 follow-requires : tie.Need-follow-requires Inv-loop μ-loop
-follow-requires c κs =
-    let at-loop = c .before .before .before in
-    let p = start at-loop .pre in
-    (given-still p (at-loop .loop .inv .1), c .before .in-order .ensures)
+follow-requires c κs = (given-still (start (head c) .pre) (head c .loop .inv .1), c .before .in-order .ensures)
 
 loop-again : tie.Need-loop-again Inv-loop μ-loop
 loop-again c =
-    let called = c .before .before in
-    let inv = called .before .before .before .before .loop .inv in (
+    let inv = head (called c .before) .loop .inv in (
       omega arith,
       omega (arith, inv .1),
-      λ go r. let t = inv .2 go r in went-both t (called .follow .ensures go (t .ready)),
+      λ go r. let t = inv .2 go r in went-both t (called c .follow .ensures go (t .ready)),
     )
 
 pub pass-spec : {M : Type 1} → statement M

@@ -19,15 +19,24 @@ Inv-loop seen chart n m from row₀ numbers₀ at₀ k₀ row numbers at k =
 abbrev μ-loop : tie.MeasureT-loop
 μ-loop seen chart n m from row₀ numbers₀ at₀ k₀ row numbers at k = n - k
 
--- the stops: the loop's head, and the start
+-- the stops: where the walk's end was tested, the loop's head, and the start
+abbrev tested : tie.After-turned Inv-loop μ-loop → tie.After-ends Inv-loop μ-loop
+tested c = c .before .before
+
+abbrev loop : tie.After-slice-known3 Inv-loop μ-loop → tie.At-loop Inv-loop μ-loop
+loop c = c .before .before
+
 abbrev head : tie.After-ends Inv-loop μ-loop → tie.At-loop Inv-loop μ-loop
-head c = c .before .before .before .before
+head c = loop (c .before .before)
+
+abbrev entry : tie.After-slice-known2 Inv-loop μ-loop → tie.Start Inv-loop μ-loop
+entry c = c .before .before .before
 
 abbrev start : tie.At-loop Inv-loop μ-loop → tie.Start Inv-loop μ-loop
-start c = c .before .before .before .before
+start c = entry (c .before)
 
 loop-holds : tie.Need-loop-holds Inv-loop μ-loop
-loop-holds c = let p = c .before .before .before .pre in (omega arith, p .3, p .2, p .1, marked-none)
+loop-holds c = let p = entry c .pre in (omega arith, p .3, p .2, p .1, marked-none)
 
 -- the walk's state has a number
 at-state : (c : tie.At-loop Inv-loop μ-loop) → (c .loop .at < length (c .loop .numbers)) × (c .loop .at < 256)
@@ -40,22 +49,21 @@ returns c = let inv = head (c .before) .loop .inv in (inv .4, inv .1, inv .0)
 
 cast-row : tie.Need-cast-row Inv-loop μ-loop
 cast-row c =
-    let at-loop = head (c .before .before) in
+    let at-loop = head (tested c) in
     omega (arith, at-loop .loop .inv .1, shaped (start at-loop .pre .0) .few-states)
 
 arrow-requires : tie.Need-arrow-requires Inv-loop μ-loop
 arrow-requires c κs =
-    let test = c .before in
-    let ended = test .before in
+    let ended = tested c in
     let p = start (head ended) .pre in
     let m = start (head ended) .args .m in
     let i = ended .before .hint .result in
-    (p .0, leb-false m i (or-false (ended .ends .result) (leb m i) (test .if1 .left) .1))
+    (p .0, leb-false m i (or-false (ended .ends .result) (leb m i) (c .before .if1 .left) .1))
 
 loop-again : tie.Need-loop-again Inv-loop μ-loop
 loop-again c =
     let turned = c .before in
-    let at-loop = head (turned .before .before) in
+    let at-loop = head (tested turned) in
     let inv = at-loop .loop .inv in (
       omega arith,
       c .arrow .ensures .1 .end,
@@ -67,11 +75,11 @@ loop-again c =
 pub trail-spec : {M : Type 1} → statement M
 trail-spec =
     tie.close
-    (tie.spec Inv-loop μ-loop loop-holds (λ c. omega (arith, at-state (c .before))) (λ c. omega (arith, at-state (c .before .before)))
+    (tie.spec Inv-loop μ-loop loop-holds (λ c. omega (arith, at-state (c .before))) (λ c. omega (arith, at-state (loop c)))
     (λ c κs. tt) (λ c κs. tt) (λ c. omega (arith, head (c .before) .loop .inv .2, start (head (c .before)) .pre .2))
     (λ c. omega (arith, head (c .before) .loop .inv .3, start (head (c .before)) .pre .1)) returns (λ c κs. tt)
-    (λ c. omega (arith, at-state (head (c .before .before)))) (λ c. omega (arith, at-state (head (c .before .before)))) cast-row
-    (λ c. omega (arith, head (c .before .before) .loop .inv .2)) arrow-requires (λ c. omega arith)
+    (λ c. omega (arith, at-state (head (tested c)))) (λ c. omega (arith, at-state (head (tested c)))) cast-row
+    (λ c. omega (arith, head (tested c) .loop .inv .2)) arrow-requires (λ c. omega arith)
     (λ c. omega arith) loop-again (λ c. omega (arith, c .before .loop .inv .2, start (c .before) .pre .2))
     (λ c. omega (arith, c .before .loop .inv .3, start (c .before) .pre .1))
     (λ c. let inv = c .before .loop .inv in (inv .4, inv .1, inv .0)))

@@ -17,28 +17,35 @@ Inv-loop way seen chart n m row₀ numbers₀ s₀ row numbers s =
 abbrev μ-loop : tie.MeasureT-loop
 μ-loop way seen chart n m row₀ numbers₀ s₀ row numbers s = n - s
 
--- the start
+-- the stops: after the walk from a state, its turn, and the start
+abbrev walked : tie.After-slice-known4 Inv-loop μ-loop → tie.After-walk-from Inv-loop μ-loop
+walked c = c .before .before .before .before
+
+abbrev turn : tie.After-walk-from-arg2 Inv-loop μ-loop → tie.In-loop Inv-loop μ-loop
+turn c = c .before .before
+
+abbrev entry : tie.After-slice-known2 Inv-loop μ-loop → tie.Start Inv-loop μ-loop
+entry c = c .before .before .before
+
 abbrev start : tie.At-loop Inv-loop μ-loop → tie.Start Inv-loop μ-loop
-start c = c .before .before .before .before
+start c = entry (c .before)
 
 loop-holds : tie.Need-loop-holds Inv-loop μ-loop
-loop-holds c = let p = c .before .before .before .pre in (omega arith, p .1, p .0 .size, runs-none _ _ _ _ _)
+loop-holds c = let p = entry c .pre in (omega arith, p .1, p .0 .size, runs-none _ _ _ _ _)
 
 walk-from-requires : tie.Need-walk-from-requires Inv-loop μ-loop
 walk-from-requires c κs =
-    let turn = c .before .before in
-    let at-loop = turn .before in
+    let at-loop = turn c .before in
     let inv = at-loop .loop .inv in
-    (given-still (start at-loop .pre .0) (inv .2), inv .1, turn .loop-test .taken)
+    (given-still (start at-loop .pre .0) (inv .2), inv .1, turn c .loop-test .taken)
 
 loop-again : tie.Need-loop-again Inv-loop μ-loop
 loop-again c =
-    let called = c .before .before .before .before in
-    let inv = called .before .before .before .before .loop .inv in (
+    let inv = turn (walked c .before) .before .loop .inv in (
       omega arith,
       omega (arith, inv .1),
       omega (arith, inv .2),
-      runs-both _ _ _ _ _ _ (inv .3) (called .walk-from .ensures),
+      runs-both _ _ _ _ _ _ (inv .3) (walked c .walk-from .ensures),
     )
 
 pub walk-spec : {M : Type 1} → statement M

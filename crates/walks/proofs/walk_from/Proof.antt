@@ -7,7 +7,10 @@ use Rattle.walks.proofs.Runs.{runs-marked, runs-goes, runs-both}
 use Rattle.walks.proofs.walk_from.Statement.{statement}
 use Rattle.walks.proofs.walk_from.Tie as tie
 
--- the stops: after the leap, after the walk, and the start
+-- the stops: after the way back, after the leap, after the walk, and the start
+abbrev returned : tie.After-slice-known6 → tie.After-back
+returned c = c .before .before
+
 abbrev leapt : tie.After-back-arg2 → tie.After-leap
 leapt c = c .before .before .before .before
 
@@ -31,7 +34,7 @@ back-requires c κs =
 
 returns : tie.Need-returns
 returns c =
-    let back = c .before .before in
+    let back = returned c in
     let leap = leapt (back .before) in
     let w = walked (leap .before) in
     runs-both _ _ _ _ _ _ (runs-both _ _ _ _ _ _ (runs-marked _ _ _ true _ _ (w .trail .ensures .0))

@@ -4,10 +4,14 @@ use Rattle.ways.proofs.Weights.{increases}
 use Rattle.ways.proofs.increased.Statement.{statement}
 use Rattle.ways.proofs.increased.Tie as tie
 
+-- the start
+abbrev start : tie.After-lesser → tie.Start
+start c = c .before .before
+
 returns : tie.Need-returns
 returns c =
     let weighed = c .before .weight-of in
-    let a = c .before .before .args in
+    let a = start c .args in
     increases (a .ticks) (a .most) (a .there) (weighed .result) (weighed .ensures) (c .lesser .ensures)
 
 pub increased-spec : {M : Type 1} → statement M
