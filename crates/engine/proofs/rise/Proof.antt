@@ -24,8 +24,8 @@ Inv-loop way chart n m row₀ numbers₀ done₀ seen₀ floor₀ row numbers do
 abbrev μ-loop : tie.MeasureT-loop
 μ-loop way chart n m row₀ numbers₀ done₀ seen₀ floor₀ row numbers done seen floor = left way (values numbers)
 
--- the stops, from the last: where a sweep tells if it changed a value, after it, where its floor is known, after the hints, where the pace is known, the
--- loop's head, and the start
+-- the stops, from the last: where a sweep tells if it changed a value, after it, where its floor is known, after the
+-- hints, where the pace is known, the loop's head, and the start
 abbrev told : tie.After-counted Inv-loop μ-loop → tie.After-struct-known Inv-loop μ-loop
 told c = c .before .before
 

@@ -1,4 +1,4 @@
--- The four bases.
+-- The four starts.
 use mathlib.Core.Path.{subst}
 use Prim.Native.Nat.{_≤_}
 use native.Mathlib.Omega.{arith}
