@@ -7,6 +7,8 @@ use native.Mathlib.Omega.{arith}
 use lib.ListN.{length}
 use Rattle.outcome.specs.declared.Outcome.{Outcome}
 use Rattle.outcome.specs.Refusal.{first}
+use Rattle.chart.specs.Bytes.{stateCount, arrowCount}
+use Rattle.rule.specs.Bytes.{nodeCount}
 use Rattle.rule.proofs.Accepted.{accepted}
 use Rattle.loops.specs.Refusal.{loopRow}
 use Rattle.until_start.specs.Lent.{Lent}
@@ -15,6 +17,21 @@ use Rattle.settle.specs.TimesSettled.{timesSettled}
 use Rattle.settle.specs.Settled.{Settled}
 use Rattle.settle.proofs.Once.{once}
 use Rattle.call_check.specs.Judged.{Judgeable, Judged}
+use Rattle.call_check.proofs.Chain.{Admitted}
+
+-- once counted, they may be judged
+pub judgeable :
+    {chart rule marks scratch numbers : List ℕ} {n m k : ℕ} → Admitted chart rule marks scratch →
+    n ≡ stateCount chart → m ≡ arrowCount chart → k ≡ nodeCount rule → length numbers ≡ n →
+    Judgeable chart n m rule k marks numbers
+judgeable p states arrows nodes size =
+    record {
+      passed = record { states = states; arrows = arrows; unrefused = p .of-chart };
+      nodes = nodes;
+      unrefused = p .of-rule;
+      table = rw (states, nodes) (p .table);
+      size = size;
+    }
 
 -- the last row ends where all rows do
 last-row : (k n : ℕ) → 1 ≤ k → (k - 1) * n + n ≡ k * n

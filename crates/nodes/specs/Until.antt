@@ -1,13 +1,12 @@
--- The row of an until.
-use mathlib.Core.Bool.{Bool, cond}
-use mathlib.Core.List.{List}
+-- What an until makes of its operands, by its operation.
+use mathlib.Core.Bool.{cond}
 use Prim.Native.Nat.{ℕ}
 use lib.Dec.{eqb}
-use Rattle.tctl.specs.Chart.{Arrow}
 use Rattle.tctl.specs.Formula.{Bound}
-use Rattle.model.specs.Decide.{someRow, allRow}
+use Rattle.model.specs.Decide.{ask, someRow, allRow}
+use Rattle.until_start.specs.FromOperands.{Until}
 
--- the row of E, operation 5, or else of A
-abbrev pub untilRow : ℕ → List Arrow → ℕ → Bound → (ℕ → Bool) → (ℕ → Bool) → List Bool
-untilRow operation arrows n bound p q =
-    cond (eqb operation 5) (someRow arrows n bound p q) (allRow arrows n bound p q)
+-- some run meets the until of E, operation 5; or else every run meets that of A
+abbrev pub untilMet : ℕ → Bound → Until
+untilMet operation bound arrows n p q =
+    ask (cond (eqb operation 5) (someRow arrows n bound p q) (allRow arrows n bound p q))

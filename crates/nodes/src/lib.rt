@@ -1,13 +1,13 @@
 // Settling one node: its row of marks from the rows of its operands.
 ghost use Prim.Native.Nat.{_<_};
-ghost use Rattle.model.specs.Decide.{ask, holds};
-ghost use Rattle.model.specs.Marks.{mark};
+ghost use Rattle.model.specs.Decide.{holds};
 ghost use Rattle.chart.specs.Bytes.{chartOf};
 ghost use Rattle.rule.specs.Formula.{boundOf, formulaAt};
 ghost use Rattle.fill.specs.Written.{RowWritten};
 ghost use Rattle.until_start.specs.Lent.{Lent, OperandsBelow};
+ghost use Rattle.until_start.specs.FromOperands.{FromOperands};
 ghost use Rattle.nodes.specs.Right.{AcceptedNode, OperandsRight};
-ghost use Rattle.nodes.specs.Until.{untilRow};
+ghost use Rattle.nodes.specs.Until.{untilMet};
 use fill::Connective;
 use rule::NodeWords;
 
@@ -22,10 +22,8 @@ fn until(
     numbers: &mut [u32],
 )
     requires { ⌜ Lent (now chart) n m t (now marks) (now numbers) × OperandsBelow t node × (node .c < 65536) ⌝ }
-    ensures { λ _. ⌜ RowWritten n t
-        (ask (untilRow (node .operation) (chartOf (now (chart .entry)) .arrows) n (boundOf (node .kind) (node .c))
-        (mark n (now (marks .entry)) (node .a)) (mark n (now (marks .entry)) (node .b))))
-        (now (marks .entry)) (now (marks .exit)) ⌝ }
+    ensures { λ _. ⌜ FromOperands (untilMet (node .operation) (boundOf (node .kind) (node .c)))
+        (now (chart .entry)) n t node (now (marks .entry)) (now (marks .exit)) ⌝ }
 {
     if node.operation == rule::SOME_UNTIL {
         if node.kind == rule::AT_MOST {
@@ -46,7 +44,7 @@ fn until(
     until_twice::all_at_least(chart, n, m, t, node, marks, numbers);
 }
 
-// AcceptedNode t's own row, where those of its operands are right.
+// Node t's own row, where those of its operands are right.
 pub fn settle_node(
     chart: &[u8],
     n: usize,

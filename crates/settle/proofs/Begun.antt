@@ -1,4 +1,4 @@
--- AcceptedNode t was read: what the calls for its operands and for its own row ask, and what they leave.
+-- Node t was read: what the calls for its operands and for its own row ask, and what they leave.
 use mathlib.Core.Path.{_≡_, ap, subst, _∙_}
 use mathlib.Core.List.{List}
 use Prim.Native.Nat.{ℕ, _≤_, _<_}

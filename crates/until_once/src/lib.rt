@@ -1,11 +1,8 @@
 // Untils that one run of the engine settles: E with either bound, and the states from which no run fails or waits.
 ghost use Prim.Native.Nat.{_<_};
 ghost use Rattle.tctl.specs.Formula.{atMost, atLeast};
-ghost use Rattle.model.specs.Decide.{ask, someRow};
-ghost use Rattle.model.specs.Marks.{mark};
-ghost use Rattle.chart.specs.Bytes.{chartOf};
-ghost use Rattle.fill.specs.Written.{RowWritten};
 ghost use Rattle.until_start.specs.Lent.{Lent, OperandsBelow};
+ghost use Rattle.until_start.specs.FromOperands.{FromOperands, someMeets};
 use fill::Initial;
 use rule::NodeWords;
 use ways::Climb;
@@ -22,9 +19,7 @@ pub fn some_at_most(
     numbers: &mut [u32],
 )
     requires { ⌜ Lent (now chart) n m t (now marks) (now numbers) × OperandsBelow t node × (node .c < 65536) ⌝ }
-    ensures { λ _. ⌜ RowWritten n t
-        (ask (someRow (chartOf (now (chart .entry)) .arrows) n (atMost (node .c))
-        (mark n (now (marks .entry)) (node .a)) (mark n (now (marks .entry)) (node .b))))
+    ensures { λ _. ⌜ FromOperands (someMeets (atMost (node .c))) (now (chart .entry)) n t node
         (now (marks .entry)) (now (marks .exit)) ⌝ }
 {
     let far = node.c + 1;
@@ -53,9 +48,7 @@ pub fn some_at_least(
     numbers: &mut [u32],
 )
     requires { ⌜ Lent (now chart) n m t (now marks) (now numbers) × OperandsBelow t node × (node .c < 65536) ⌝ }
-    ensures { λ _. ⌜ RowWritten n t
-        (ask (someRow (chartOf (now (chart .entry)) .arrows) n (atLeast (node .c))
-        (mark n (now (marks .entry)) (node .a)) (mark n (now (marks .entry)) (node .b))))
+    ensures { λ _. ⌜ FromOperands (someMeets (atLeast (node .c))) (now (chart .entry)) n t node
         (now (marks .entry)) (now (marks .exit)) ⌝ }
 {
     let cap = node.c + 1;

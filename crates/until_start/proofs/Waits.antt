@@ -12,7 +12,7 @@ use borrow.Author.Tests.{lt-ltb, le-ltb, le-leb, lt-leb}
 use Rattle.base.specs.Tabulate.{tabulate}
 use Rattle.tctl.specs.Chart.{Arrow}
 use Rattle.base.proofs.Tabulate.{getD-tabulate, tabulate-same, map-tabulate}
-use Rattle.model.specs.Engine.{num, least, greatest}
+use Rattle.model.specs.Engine.{num, greatest}
 use Rattle.model.specs.Decide.{ask, waiting, failing, waits, ticking, plainRow}
 use Rattle.model.specs.Weighed.{weighed}
 use Rattle.model.proofs.Same.{Same}
@@ -23,6 +23,7 @@ use Rattle.ways.specs.declared.Way.the-variants.{Raise}
 use Rattle.ways.specs.Way.{top, leftOver}
 use Rattle.fill.specs.declared.Initial.the-variants.{Fail}
 use Rattle.until_start.specs.Risen.{Risen}
+use Rattle.until_start.specs.FromOperands.{unhinderedUpTo, allMeetPlain}
 
 -- a row that is tabulated from the numbers ts answers as the same numbers ws do
 pub answers :
@@ -73,8 +74,7 @@ module _ {chart ns : List ℕ} {n : ℕ} {p q : ℕ → Bool} (c : ℕ) where
   pub unhindered-by :
       {ticks : Bool} →
       Risen (Fail (c + 1)) (Raise (record { ticks = ticks; leap = false; cap = c + 1 })) chart n p q ns →
-      Same n (λ s. leb (valueOf (num ns s)) c)
-      (λ s. leb (num (waits (weighed ticks (chartOf chart .arrows)) n c p q) s) c)
+      Same n (λ s. leb (valueOf (num ns s)) c) (unhinderedUpTo ticks c (chartOf chart .arrows) n p q)
   unfolding waits greatest
   unhindered-by {ticks} r s l =
       ap (λ v. leb v c) (value-at ns s) ∙
@@ -83,6 +83,6 @@ module _ {chart ns : List ℕ} {n : ℕ} {p q : ℕ → Bool} (c : ℕ) where
       ap (λ k. greatest (weighed ticks (chartOf chart .arrows)) n k (waiting p q) (failing k p q)) (one-more c))
 
 module _ (n : ℕ) (arrows : List Arrow) (p q : ℕ → Bool) where
-  pub plain-answers : Same n (λ s. leb (num (waits (map ticking arrows) n n p q) s) n) (ask (plainRow arrows n p q))
+  pub plain-answers : Same n (unhinderedUpTo true n arrows n p q) (allMeetPlain arrows n p q)
   unfolding plainRow
   plain-answers = answers (λ v. leb v n) {ws = waits (map ticking arrows) n n p q} refl

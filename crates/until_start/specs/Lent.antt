@@ -5,7 +5,6 @@ use mathlib.Core.Bool.{Bool}
 use mathlib.Core.List.{List}
 use Prim.Native.Nat.{ℕ, _+_, _*_, _≤_, _<_}
 use lib.ListN.{length, getD}
-use Rattle.model.specs.Decide.{holds}
 use Rattle.chart.specs.Shape.{Passed}
 use Rattle.rule.specs.declared.NodeWords.{NodeWords}
 use Rattle.ways.specs.declared.Way.{Way}

@@ -2,18 +2,13 @@
 // fails the until or waits for it.
 ghost use mathlib.Core.Bool.{Bool};
 ghost use Prim.Native.Nat.{ℕ, suc, _≤_};
-ghost use lib.Dec.{leb};
 ghost use Rattle.model.specs.Marks.{mark};
-ghost use Rattle.model.specs.Engine.{num};
-ghost use Rattle.model.specs.Decide.{waits};
-ghost use Rattle.model.specs.Weighed.{weighed};
-ghost use Rattle.chart.specs.Bytes.{chartOf};
 ghost use Rattle.ways.specs.Way.{highest};
 ghost use Rattle.visits.specs.Moves.{Ready};
 ghost use Rattle.engine.specs.AsModel.{AsModel};
-ghost use Rattle.fill.specs.Written.{RowWritten};
 ghost use Rattle.until_start.specs.Lent.{Lent, OperandsBelow, Able, Besides};
 ghost use Rattle.until_start.specs.Risen.{Suits, Risen};
+ghost use Rattle.until_start.specs.FromOperands.{FromOperands, unhinderedUpTo};
 use fill::Initial;
 use rule::NodeWords;
 use ways::Climb;
@@ -73,9 +68,7 @@ pub fn unhindered(
     numbers: &mut [u32],
 )
     requires { ⌜ Lent (now chart) n m t (now marks) (now numbers) × OperandsBelow t node × (suc limit ≤ highest) ⌝ }
-    ensures { λ _. ⌜ RowWritten n t
-        (λ s. leb (num (waits (weighed ticks (chartOf (now (chart .entry)) .arrows)) n limit
-        (mark n (now (marks .entry)) (node .a)) (mark n (now (marks .entry)) (node .b))) s) limit)
+    ensures { λ _. ⌜ FromOperands (unhinderedUpTo ticks limit) (now (chart .entry)) n t node
         (now (marks .entry)) (now (marks .exit)) ⌝ }
 {
     let cap = limit + 1;

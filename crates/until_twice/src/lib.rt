@@ -1,11 +1,10 @@
 // A(a until b, at least c), c above 0, which two runs of the engine settle.
 ghost use Prim.Native.Nat.{_<_};
 ghost use Rattle.tctl.specs.Formula.{atLeast};
-ghost use Rattle.model.specs.Decide.{ask, plainRow, allRow};
 ghost use Rattle.model.specs.Marks.{mark};
 ghost use Rattle.chart.specs.Bytes.{chartOf};
-ghost use Rattle.fill.specs.Written.{RowWritten};
 ghost use Rattle.until_start.specs.Lent.{Lent, OperandsBelow};
+ghost use Rattle.until_start.specs.FromOperands.{FromOperands, allMeet, allMeetPlain};
 ghost use Rattle.until_twice.specs.Starts.{Starts};
 use fill::Initial;
 use rule::NodeWords;
@@ -23,9 +22,7 @@ fn sure_start(
     numbers: &mut [u32],
 ) -> bool
     requires { ⌜ Lent (now chart) n m t (now marks) (now numbers) × OperandsBelow t node × (node .c < 65536) ⌝ }
-    ensures { λ r. ⌜ RowWritten n t
-        (ask (plainRow (chartOf (now (chart .entry)) .arrows) n
-        (mark n (now (marks .entry)) (node .a)) (mark n (now (marks .entry)) (node .b))))
+    ensures { λ r. ⌜ FromOperands allMeetPlain (now (chart .entry)) n t node
         (now (marks .entry)) (now (marks .exit))
         × Starts r (chartOf (now (chart .entry)) .arrows) n
         (mark n (now (marks .entry)) (node .a)) (mark n (now (marks .entry)) (node .b)) (node .c)
@@ -54,9 +51,7 @@ pub fn all_at_least(
 )
     requires { ⌜ Lent (now chart) n m t (now marks) (now numbers) × OperandsBelow t node ⌝ }
     requires { ⌜ (node .c < 65536) × (0 < node .c) ⌝ }
-    ensures { λ _. ⌜ RowWritten n t
-        (ask (allRow (chartOf (now (chart .entry)) .arrows) n (atLeast (node .c))
-        (mark n (now (marks .entry)) (node .a)) (mark n (now (marks .entry)) (node .b))))
+    ensures { λ _. ⌜ FromOperands (allMeet (atLeast (node .c))) (now (chart .entry)) n t node
         (now (marks .entry)) (now (marks .exit)) ⌝ }
 {
     if !sure_start(chart, n, m, t, node, marks, numbers) {

@@ -1,11 +1,10 @@
 -- Row 19, and then, from the last node down, all nodes.
-use mathlib.Core.Path.{_∙_}
 use Rattle.call_check.proofs.Judgeable.{some-nodes, last-asks, all-settled}
 use borrow.Author.Needs.{needs}
 use Rattle.call_check.proofs.judged.Statement.{statement}
 use Rattle.call_check.proofs.judged.Tie as tie
 
--- the stops: where row 19 is passed, after its test, and the start
+-- the start, where row 19 is tested and passed, where the hints are written, and where the last node is settled
 abbrev passed : tie.After-start → tie.Else1
 passed c = c .before .before
 
@@ -15,20 +14,26 @@ looped c = c .before .before .before .before
 abbrev start : tie.After-loop-refusal → tie.Start
 start c = c .before .before .before .before .before .before
 
+abbrev begun : tie.After-slice-known4 → tie.After-start
+begun c = c .before .before
+
+abbrev asked : tie.After-settle-arg2 → tie.After-start
+asked c = begun (c .before .before)
+
+abbrev settled : tie.After-slice-known6 → tie.After-settle
+settled c = c .before .before .before .before
+
 sub-last : tie.Need-sub-last
-sub-last c = some-nodes (start (looped (passed (c .before .before))) .pre)
+sub-last c = some-nodes (start (looped (passed (begun c))) .pre)
 
 settle-requires : tie.Need-settle-requires
-settle-requires c κs =
-    let begun = c .before .before .before .before in
-    let tested = looped (passed begun) in
-    last-asks (start tested .pre) (begun .start .kept .1 .1 .1 .0 ∙ tested .loop-refusal .kept .1 .1 .1 .0)
+settle-requires c κs = last-asks (start (looped (passed (asked c))) .pre) (search needs)
 
 returns-2 : tie.Need-returns-2
 returns-2 c =
-    let settled = c .before .before .before .before in
-    let past = passed (settled .before .before .before .before .before) in
-    all-settled (start (looped past) .pre) (looped past .loop-refusal .ensures) (past .if1 .left) (settled .settle .ensures)
+    let past = passed (asked (settled c .before)) in
+    all-settled (start (looped past) .pre) (looped past .loop-refusal .ensures) (past .if1 .left)
+    (settled c .settle .ensures)
 
 pub judged-spec : {M : Type 1} → statement M
 judged-spec =

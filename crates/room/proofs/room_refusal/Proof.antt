@@ -10,10 +10,18 @@ use denote.Ref.{now}
 use Rattle.room.proofs.room_refusal.Statement.{statement}
 use Rattle.room.proofs.room_refusal.Tie as tie
 
+-- the start, and where the size of the scratch is known, if it is too small and if not
+abbrev start : tie.After-shared-slice-known2 → tie.Start
+start c = c .before .before
+
+abbrev short : tie.After-refused2 → tie.After-scratch-size
+short c = c .before .before
+
+abbrev enough : tie.After-accepted → tie.After-scratch-size
+enough c = c .before .before
+
 mul-if1 : tie.Need-mul-if1
-mul-if1 c =
-    let p = c .before .before .pre in
-    omega (arith, mul-le-mul (p .1) (p .0))
+mul-if1 c = omega (arith, mul-le-mul (start c .pre .1) (start c .pre .0))
 
 returns : tie.Need-returns
 unfolding first
@@ -22,19 +30,22 @@ returns c = simp (lt-ltb _ _ (c .before .if1 .taken)) (c .refused .ensures)
 returns-2 : tie.Need-returns-2
 unfolding first
 returns-2 c =
-    let sized = c .before .before in
-    let a = sized .before .before .before .before .args in
-    let short = lt-ltb (length (now (a .scratch))) (scratchSize (a .n)) (omega (arith, sized .scratch-size .ensures)) in
-    simp (le-ltb _ _ (sized .before .if1 .left), short) (c .refused2 .ensures)
+    let else = short c .before in
+    let a = start (else .before) .args in
+    let size = short c .scratch-size .ensures in
+    simp
+    (le-ltb _ _ (else .if1 .left), lt-ltb (length (now (a .scratch))) (scratchSize (a .n)) (omega (arith, size)))
+    (c .refused2 .ensures)
 
 returns-3 : tie.Need-returns-3
 unfolding first
 returns-3 c =
-    let sized = c .before .before in
-    let a = sized .before .before .before .before .args in
-    let fits = sized .scratch-size .ensures in
-    let enough = le-ltb (length (now (a .scratch))) (scratchSize (a .n)) (omega (arith, fits)) in
-    simp (le-ltb _ _ (sized .before .if1 .left), enough) (c .accepted .ensures)
+    let else = enough c .before in
+    let a = start (else .before) .args in
+    let size = enough c .scratch-size .ensures in
+    simp
+    (le-ltb _ _ (else .if1 .left), le-ltb (length (now (a .scratch))) (scratchSize (a .n)) (omega (arith, size)))
+    (c .accepted .ensures)
 
 pub room-refusal-spec : {M : Type 1} → statement M
 room-refusal-spec =

@@ -1,13 +1,14 @@
 -- The operands' rows, then the node's own; the node number falls at each call.
-use mathlib.Core.Path.{refl, _∙_}
+use mathlib.Core.Path.{refl}
 use Prim.Native.Nat.{ℕ, _<_}
 use native.Mathlib.Omega.{arith}
+use borrow.Author.Needs.{needs}
 use denote.Ref.{now}
-use borrow.Fn.Kinds.{In}
+use borrow.Fn.Kinds.{In, Out}
 use borrow.Fn.PlainCycle.{Measures, is, falls, and}
 use Rattle.settle.proofs.settle.Reads as settle
-use Rattle.settle.proofs.settle.Kinds as settle-kinds
-use Rattle.settle.proofs.+settle.Lts-settle as settle-lts
+use Rattle.settle.proofs.settle.Kinds as kinds
+use Rattle.settle.proofs.+settle.Lts-settle as lts
 use Rattle.nodes.proofs.settle_node.Reads as settle-node-reads
 use Rattle.rule.proofs.Accepted.{accepted}
 use Rattle.rule.proofs.Read.{a-lower, b-lower}
@@ -16,162 +17,147 @@ use Rattle.rule.proofs.node_at.Reads as node-at-reads
 use Rattle.settle.proofs.+settle.{statement}
 use Rattle.settle.proofs.+settle.Tie.{close}
 
-abbrev μ-settle : Measures 4 settle-kinds.ps ℕ
+abbrev μ-settle : Measures 4 kinds.ps ℕ
 μ-settle κs a = a .1 .1 .1 .1 .0
 
-abbrev settle-at : ℕ → In 4 settle-kinds.ps
-settle-at t = and 4 settle-kinds.ps (is 4 settle-kinds.ps μ-settle t) settle.Pre
+module _ (t : ℕ) where
+  abbrev given : In 4 kinds.ps
+  given = and 4 kinds.ps (is 4 kinds.ps μ-settle t) settle.Pre
 
-abbrev settle-below : ℕ → In 4 settle-kinds.ps
-settle-below t = and 4 settle-kinds.ps (falls 4 settle-kinds.ps _<_ μ-settle t) settle.Pre
+  abbrev below : In 4 kinds.ps
+  below = and 4 kinds.ps (falls 4 kinds.ps _<_ μ-settle t) settle.Pre
 
-abbrev calls : ℕ → settle-lts.Claims
-calls t = (
-  node-at-reads.Asked,
-  node-at-reads.Learnt,
-  settle-node-reads.Asked,
-  settle-node-reads.Learnt,
-  settle-below t,
-  settle.Post,
-)
+  abbrev calls : lts.Claims
+  calls = (
+    node-at-reads.Asked,
+    node-at-reads.Learnt,
+    settle-node-reads.Asked,
+    settle-node-reads.Learnt,
+    below,
+    settle.Post,
+  )
 
--- what was read is node t
-begun :
-    (t : ℕ) (c : settle-lts.After-node-at (calls t) (settle-at t) settle.Post) →
-    let start = c .before .before .before .before .before .args in
-    Begun (now (start .chart)) (start .n) (start .m) (now (start .rule)) (start .t) (c .node-at .result)
-    (now (start .marks)) (now (start .numbers))
-begun t c =
-    let p = c .before .before .before .before .before .pre in
-    record {
-      lent = p .1 .0;
-      node = record { accepted = p .1 .1 .unrefused; low = p .1 .1 .inside; read = c .node-at .ensures .0 };
-    }
+  -- a stop, or a need, of settling node t
+  abbrev At : (lts.Claims → In 4 kinds.ps → Out 4 kinds.ps kinds.r → Type 0) → Type 0
+  At R = R calls given settle.Post
 
-settle-node-at-requires : (t : ℕ) → settle-lts.Need-node-at-requires (calls t) (settle-at t) settle.Post
-settle-node-at-requires t c κs =
-    let p = c .before .before .before .before .pre .1 .1 in
-    omega (arith, accepted _ (p .unrefused) .shape .whole, p .inside)
+  -- the start, and where the node is read
+  abbrev start : At lts.After-slice-known2 → At lts.Start
+  start c = c .before .before .before .before
 
-settle-settle-node-requires : (t : ℕ) → settle-lts.Need-settle-node-requires (calls t) (settle-at t) settle.Post
-settle-settle-node-requires t c κs =
-    let leaf = c .before .before in
-    let b = begun t (leaf .before .before) in
-    own-asks b (none-below b (leaf .if1 .taken)) refl
+  abbrev read : At lts.After-struct-known → At lts.After-node-at
+  read c = c .before
 
-settle-same-length : (t : ℕ) → settle-lts.Need-same-length (calls t) (settle-at t) settle.Post
-settle-same-length t c = c .before .before .before .before .settle-node .kept .1 .1 .1 .1 .1 .0
+  -- its operation: a leaf, or more; "not", or two operands
+  abbrev leaf : At lts.After-settle-node-arg2 → At lts.Then1
+  leaf c = c .before .before
 
-settle-same-length-2 : (t : ℕ) → settle-lts.Need-same-length-2 (calls t) (settle-at t) settle.Post
-settle-same-length-2 t c = c .before .before .before .before .settle-node .kept .1 .1 .1 .1 .1 .1 .0
+  abbrev more : At lts.After-settle-arg2 → At lts.Else1
+  more c = c .before .before
 
-settle-returns : (t : ℕ) → settle-lts.Need-returns (calls t) (settle-at t) settle.Post
-settle-returns t c =
-    let own = c .before .before .before .before in
-    let leaf = own .before .before .before in
-    let b = begun t (leaf .before .before) in
-    own-settled b (none-below b (leaf .if1 .taken)) (own .settle-node .ensures)
+  abbrev not : At lts.After-settle-node-arg4 → At lts.Then2
+  not c = c .before .before
 
-settle-settle-requires : (t : ℕ) → settle-lts.Need-settle-requires (calls t) (settle-at t) settle.Post
-settle-settle-requires t c κs =
-    let read = c .before .before .before .before in
-    let b = begun t read in
-    let low = a-lower (b .node) (omega arith) in
-    (omega (arith, low, read .before .before .before .before .before .pre .0), operand-asks b low refl refl)
+  abbrev two : At lts.After-settle-arg4 → At lts.Else2
+  two c = c .before .before
 
-settle-settle-node-requires-2 : (t : ℕ) → settle-lts.Need-settle-node-requires-2 (calls t) (settle-at t) settle.Post
-settle-settle-node-requires-2 t c κs =
-    let not = c .before .before in
-    let left = not .before .before .before .before .before .before in
-    let b = begun t (left .before .before .before .before .before) in
-    own-asks b (one-below b (not .if2 .taken) (left .settle .ensures)) (left .settle .kept .1 .1 .1 .1 .1 .1 .0)
+  -- the operands are settled
+  abbrev left : At lts.After-struct-known2 → At lts.After-settle
+  left c = c .before .before .before .before .before
 
-settle-same-length-3 : (t : ℕ) → settle-lts.Need-same-length-3 (calls t) (settle-at t) settle.Post
-settle-same-length-3 t c =
-    let own = c .before .before .before .before in
-    let left = own .before .before .before .before .before .before .before .before .before in
-    own .settle-node2 .kept .1 .1 .1 .1 .1 .0 ∙ left .settle .kept .1 .1 .1 .1 .1 .0
+  abbrev right : At lts.After-settle-node-arg6 → At lts.After-settle2
+  right c = c .before .before .before .before .before .before
 
-settle-same-length-4 : (t : ℕ) → settle-lts.Need-same-length-4 (calls t) (settle-at t) settle.Post
-settle-same-length-4 t c =
-    let own = c .before .before .before .before in
-    let left = own .before .before .before .before .before .before .before .before .before in
-    own .settle-node2 .kept .1 .1 .1 .1 .1 .1 .0 ∙ left .settle .kept .1 .1 .1 .1 .1 .1 .0
+  -- the node's own row is written: of a leaf, of "not", of two operands
+  abbrev own1 : At lts.After-slice-known4 → At lts.After-settle-node
+  own1 c = c .before .before .before .before
 
-settle-returns-2 : (t : ℕ) → settle-lts.Need-returns-2 (calls t) (settle-at t) settle.Post
-settle-returns-2 t c =
-    let own = c .before .before .before .before in
-    let not = own .before .before .before in
-    let left = not .before .before .before .before .before .before in
-    let b = begun t (left .before .before .before .before .before) in
-    own-settled b (one-below b (not .if2 .taken) (left .settle .ensures))
-    (own .settle-node2 .ensures)
+  abbrev own2 : At lts.After-slice-known8 → At lts.After-settle-node2
+  own2 c = c .before .before .before .before
 
-settle-settle-requires-2 : (t : ℕ) → settle-lts.Need-settle-requires-2 (calls t) (settle-at t) settle.Post
-settle-settle-requires-2 t c κs =
-    let two = c .before .before in
-    let left = two .before .before .before .before .before .before in
-    let read = left .before .before .before .before .before in
-    let b = begun t read in
-    let low = b-lower (b .node) (omega arith) in (
-      omega (arith, low, read .before .before .before .before .before .pre .0),
-      operand-asks b low (left .settle .kept .1 .1 .1 .1 .1 .0) (left .settle .kept .1 .1 .1 .1 .1 .1 .0),
-    )
+  abbrev own3 : At lts.After-slice-known12 → At lts.After-settle-node3
+  own3 c = c .before .before .before .before
 
-settle-settle-node-requires-3 : (t : ℕ) → settle-lts.Need-settle-node-requires-3 (calls t) (settle-at t) settle.Post
-settle-settle-node-requires-3 t c κs =
-    let right = c .before .before .before .before .before .before in
-    let two = right .before .before .before in
-    let left = two .before .before .before .before .before .before in
-    let one = left .before .before .before in
-    let b = begun t (one .before .before) in
-    let below = both-below b (one .if1 .left) (two .if2 .left) (left .settle .ensures) (right .settle2 .ensures) in
-    own-asks b below (right .settle2 .kept .1 .1 .1 .1 .1 .1 .0 ∙ left .settle .kept .1 .1 .1 .1 .1 .1 .0)
+  -- what was read is node t
+  begun :
+      (c : At lts.After-node-at) →
+      let a = start (c .before) .args in
+      Begun (now (a .chart)) (a .n) (a .m) (now (a .rule)) (a .t) (c .node-at .result) (now (a .marks)) (now (a .numbers))
+  begun c =
+      let p = start (c .before) .pre .1 in
+      record {
+        lent = p .0;
+        node = record { accepted = p .1 .unrefused; low = p .1 .inside; read = c .node-at .ensures .0 };
+      }
 
-settle-same-length-5 : (t : ℕ) → settle-lts.Need-same-length-5 (calls t) (settle-at t) settle.Post
-settle-same-length-5 t c =
-    let own = c .before .before .before .before in
-    let right = own .before .before .before .before .before .before .before in
-    let left = right .before .before .before .before .before .before .before .before .before in
-    own .settle-node3 .kept .1 .1 .1 .1 .1 .0 ∙ right .settle2 .kept .1 .1 .1 .1 .1 .0 ∙
-    left .settle .kept .1 .1 .1 .1 .1 .0
+  node-at-requires : At lts.Need-node-at-requires
+  node-at-requires c κs =
+      let p = start c .pre .1 .1 in
+      omega (arith, accepted _ (p .unrefused) .shape .whole, p .inside)
 
-settle-same-length-6 : (t : ℕ) → settle-lts.Need-same-length-6 (calls t) (settle-at t) settle.Post
-settle-same-length-6 t c =
-    let own = c .before .before .before .before in
-    let right = own .before .before .before .before .before .before .before in
-    let left = right .before .before .before .before .before .before .before .before .before in
-    own .settle-node3 .kept .1 .1 .1 .1 .1 .1 .0 ∙
-    right .settle2 .kept .1 .1 .1 .1 .1 .1 .0 ∙
-    left .settle .kept .1 .1 .1 .1 .1 .1 .0
+  settle-node-requires : At lts.Need-settle-node-requires
+  settle-node-requires c κs =
+      let b = begun (read (leaf c .before)) in
+      own-asks b (none-below b (leaf c .if1 .taken)) refl
 
-settle-returns-3 : (t : ℕ) → settle-lts.Need-returns-3 (calls t) (settle-at t) settle.Post
-settle-returns-3 t c =
-    let own = c .before .before .before .before in
-    let right = own .before .before .before .before .before .before .before in
-    let two = right .before .before .before in
-    let left = two .before .before .before .before .before .before in
-    let one = left .before .before .before in
-    let b = begun t (one .before .before) in
-    let below = both-below b (one .if1 .left) (two .if2 .left) (left .settle .ensures) (right .settle2 .ensures) in
-    own-settled b below (own .settle-node3 .ensures)
+  returns : At lts.Need-returns
+  returns c =
+      let test = leaf (own1 c .before) in
+      let b = begun (read (test .before)) in
+      own-settled b (none-below b (test .if1 .taken)) (own1 c .settle-node .ensures)
+
+  settle-requires : At lts.Need-settle-requires
+  settle-requires c κs =
+      let node = read (more c .before) in
+      let b = begun node in
+      let low = a-lower (b .node) (omega arith) in
+      (omega (arith, low, start (node .before) .pre .0), operand-asks b low refl refl)
+
+  settle-node-requires-2 : At lts.Need-settle-node-requires-2
+  settle-node-requires-2 c κs =
+      let one = left (not c .before) in
+      let b = begun (read (more (one .before) .before)) in
+      own-asks b (one-below b (not c .if2 .taken) (one .settle .ensures)) (search needs)
+
+  returns-2 : At lts.Need-returns-2
+  returns-2 c =
+      let test = not (own2 c .before) in
+      let one = left (test .before) in
+      let b = begun (read (more (one .before) .before)) in
+      own-settled b (one-below b (test .if2 .taken) (one .settle .ensures)) (own2 c .settle-node2 .ensures)
+
+  settle-requires-2 : At lts.Need-settle-requires-2
+  settle-requires-2 c κs =
+      let one = left (two c .before) in
+      let node = read (more (one .before) .before) in
+      let b = begun node in
+      let low = b-lower (b .node) (omega arith) in
+      (omega (arith, low, start (node .before) .pre .0), operand-asks b low (search needs) (search needs))
+
+  settle-node-requires-3 : At lts.Need-settle-node-requires-3
+  settle-node-requires-3 c κs =
+      let test = two (right c .before) in
+      let one = left (test .before) in
+      let some = more (one .before) in
+      let b = begun (read (some .before)) in
+      let rows = both-below b (some .if1 .left) (test .if2 .left) (one .settle .ensures) (right c .settle2 .ensures) in
+      own-asks b rows (search needs)
+
+  returns-3 : At lts.Need-returns-3
+  returns-3 c =
+      let both = right (own3 c .before) in
+      let test = two (both .before) in
+      let one = left (test .before) in
+      let some = more (one .before) in
+      let b = begun (read (some .before)) in
+      let rows = both-below b (some .if1 .left) (test .if2 .left) (one .settle .ensures) (both .settle2 .ensures) in
+      own-settled b rows (own3 c .settle-node3 .ensures)
 
 pub +settle-spec : {M : Type 1} → statement M
-+settle-spec = close μ-settle λ t. settle-lts.spec (calls t)
-    (settle-at t)
-    settle.Post
-    (settle-node-at-requires t)
-    (settle-settle-node-requires t)
-    (settle-same-length t)
-    (settle-same-length-2 t)
-    (settle-returns t)
-    (settle-settle-requires t)
-    (settle-settle-node-requires-2 t)
-    (settle-same-length-3 t)
-    (settle-same-length-4 t)
-    (settle-returns-2 t)
-    (settle-settle-requires-2 t)
-    (settle-settle-node-requires-3 t)
-    (settle-same-length-5 t)
-    (settle-same-length-6 t)
-    (settle-returns-3 t)
++settle-spec =
+    close μ-settle
+    λ t.
+    lts.spec (calls t) (given t) settle.Post (node-at-requires t) (settle-node-requires t) (λ c. search needs)
+    (λ c. search needs) (returns t) (settle-requires t) (settle-node-requires-2 t) (λ c. search needs)
+    (λ c. search needs) (returns-2 t) (settle-requires-2 t) (settle-node-requires-3 t) (λ c. search needs)
+    (λ c. search needs) (returns-3 t)

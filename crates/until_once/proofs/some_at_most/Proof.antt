@@ -8,19 +8,28 @@ use Rattle.until_once.proofs.Untils.{some-at-most}
 use Rattle.until_once.proofs.some_at_most.Statement.{statement}
 use Rattle.until_once.proofs.some_at_most.Tie as tie
 
+-- the start, where the engine ran, and where its numbers were judged
+abbrev start : tie.After-run-from-arg2 → tie.Start
+start c = c .before .before .before .before .before .before
+
+abbrev ran : tie.After-fill-limit → tie.After-run-from
+ran c = c .before .before .before .before .before .before .before
+
+abbrev judged : tie.After-slice-known5 → tie.After-fill-limit
+judged c = c .before .before
+
 run-from-requires : tie.Need-run-from-requires
 unfolding ceilingOf
 run-from-requires c κs =
-    let p = c .before .before .before .before .before .before .pre in
+    let p = start c .pre in
     (p .0, p .1, record { low = omega (arith, p .2); limit = refl; fits = tt })
 
 returns : tie.Need-returns
 returns c =
-    let judged = c .before .before in
-    let ran = judged .before .before .before .before .before .before .before in
-    let p = ran .before .before .before .before .before .before .before .pre in
-    written-again (ran .run-from .ensures .0)
-    (written-as (judged .fill-limit .ensures) (some-at-most _ (p .2) (ran .run-from .ensures .1)))
+    let from = ran (judged c) in
+    let rose = from .run-from .ensures in
+    written-again (rose .0)
+    (written-as (judged c .fill-limit .ensures) (some-at-most _ (start (from .before) .pre .2) (rose .1)))
 
 pub some-at-most-spec : {M : Type 1} → statement M
 some-at-most-spec =

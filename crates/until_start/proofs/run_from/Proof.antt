@@ -12,12 +12,15 @@ use Rattle.until_start.proofs.Lent.{rows-inside}
 use Rattle.until_start.proofs.run_from.Statement.{statement}
 use Rattle.until_start.proofs.run_from.Tie as tie
 
--- the start, and where the numbers are filled, each from a later stop
+-- the start, where the numbers are filled, and where the engine ran, each from a later stop
 abbrev lent : tie.After-fill-numbers-arg2 → tie.Start
 lent c = c .before .before .before .before .before
 
 abbrev filled : tie.After-run-arg2 → tie.After-fill-numbers
 filled c = c .before .before .before .before
+
+abbrev ran : tie.After-slice-known5 → tie.After-run
+ran c = c .before .before .before .before
 
 module _ (c : tie.After-fill-numbers) where
   abbrev start : tie.Start
@@ -56,14 +59,13 @@ run-requires c κs =
 
 returns : tie.Need-returns
 returns c =
-    let ran = c .before .before .before .before in
-    let f = filled (ran .before) in
+    let f = filled (ran c .before) in
     let a = start f .args in (
-      ran .run .ensures .0,
+      ran c .run .ensures .0,
       record {
         size = search needs;
         is =
-            ran .run .ensures .1 (go f) (begun f .ready) .is ∙
+            ran c .run .ensures .1 (go f) (begun f .ready) .is ∙
             ap (λ vs. settled (a .way) (now (a .chart)) (a .n) (go f) (minutesOf (a .way) vs))
             (begun f .starts);
       },

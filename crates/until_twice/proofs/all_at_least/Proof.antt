@@ -9,16 +9,25 @@ use Rattle.until_twice.proofs.NoneSure.{none-at-least}
 use Rattle.until_twice.proofs.all_at_least.Statement.{statement}
 use Rattle.until_twice.proofs.all_at_least.Tie as tie
 
--- the stops: where the answer is known, and the start
-abbrev sure : tie.Else1 → tie.After-sure-start
-sure c = c .before .before .before .before .before
-
+-- the start, where the answer is known and is yes, where the engine ran, and where its numbers were judged
 abbrev start : tie.After-sure-start → tie.Start
 start c = c .before .before .before .before .before .before
 
+abbrev sure : tie.After-slice-known4 → tie.After-sure-start
+sure c = c .before .before .before .before
+
+abbrev yes : tie.After-run-arg2 → tie.Else1
+yes c = c .before .before
+
+abbrev ran : tie.After-fill-limit → tie.After-run
+ran c = c .before .before .before .before .before .before .before .before
+
+abbrev judged : tie.After-slice-known7 → tie.After-fill-limit
+judged c = c .before .before
+
 returns : tie.Need-returns
 returns c =
-    let from = c .before .before .before .before .before in
+    let from = sure (c .before) in
     let p = start from .pre in
     written-as (from .sure-start .ensures .0)
     (none-at-least (p .0 .0 .passed) _ _ (from .sure-start .ensures .1 .nowhere (not-true _ (c .if1 .taken))) _
@@ -26,8 +35,8 @@ returns c =
 
 run-requires : tie.Need-run-requires
 run-requires c κs =
-    let else = c .before .before in
-    let from = sure else in
+    let else = yes c in
+    let from = sure (else .before) in
     let p = start from .pre in (
       record {
         passed = p .0 .0 .passed;
@@ -39,17 +48,16 @@ run-requires c κs =
 
 returns-2 : tie.Need-returns-2
 returns-2 c =
-    let judged = c .before .before in
-    let ran = judged .before .before .before .before .before .before .before .before in
-    let else = ran .before .before .before in
-    let p = start (sure else) .pre in
-    let from = sure else .sure-start .ensures in
-    let yes = not-false _ (else .if1 .left) in
-    written-again (wrote-besides (from .0))
-    (written-again (ran .run .ensures .0)
-    (written-as (judged .fill-limit .ensures)
-    (all-at-least _ _ _ (search needs) (p .1 .1) (omega (arith, p .1 .0)) (from .1 .is yes)
-    (ran .run .ensures .1 _ (from .1 .ready yes)))))
+    let fell = ran (judged c) in
+    let else = yes (fell .before) in
+    let p = start (sure (else .before)) .pre in
+    let begun = sure (else .before) .sure-start .ensures in
+    let e = not-false _ (else .if1 .left) in
+    written-again (wrote-besides (begun .0))
+    (written-again (fell .run .ensures .0)
+    (written-as (judged c .fill-limit .ensures)
+    (all-at-least _ _ _ (search needs) (p .1 .1) (omega (arith, p .1 .0)) (begun .1 .is e)
+    (fell .run .ensures .1 _ (begun .1 .ready e)))))
 
 pub all-at-least-spec : {M : Type 1} → statement M
 all-at-least-spec =
