@@ -1,11 +1,11 @@
 -- The table of map check by parts: the detail's rows, the overview's and the map's.
-use mathlib.Core.Path.{_≡_, refl, _∙_}
+use mathlib.Core.Path.{_≡_, subst}
 use mathlib.Core.List.{List, [], _∷_, _++_}
 use Prim.Native.Nat.{ℕ}
 use Rattle.outcome.specs.declared.Outcome.{Outcome}
 use Rattle.outcome.specs.Refusal.{Row, first}
 use Rattle.outcome.proofs.First.{part-refuses, part-passes}
-use Rattle.chart.specs.Bytes.{stateCount, arrowCount}
+use Rattle.chart.specs.Bytes.{stateCount}
 use Rattle.chart.specs.Refusals.{chartTable}
 use Rattle.loops.specs.Refusal.{loopRow, acceptedTable, acceptedRefusal}
 use Rattle.loops.proofs.Accepted.{accepted-numbered}
@@ -36,19 +36,16 @@ module _ (d o p : List ℕ) where
     unfolding mapCheckTable acceptedTable chartTable loopRow
     map-next = part-passes charts (mapTable d o p) tt both
 
-  -- ── The map, with n detail states, m detail arrows and k overview states ──
+  -- ── The map, for n detail states ──
 
-  module _ {n m k : ℕ} {f : Outcome} (form : f ≡ first (formRow p n ∷ [])) where
-    table :
-        n ≡ stateCount d → m ≡ arrowCount d → k ≡ stateCount o →
-        first (formRow p n ∷ mappedRows d o p n m k) ≡ first (mapTable d o p)
+  module _ {n : ℕ} {f : Outcome} (e : n ≡ stateCount d) (form : f ≡ first (formRow p n ∷ [])) where
+    formed : f ≡ first (formRow p (stateCount d) ∷ [])
+    formed = subst (λ n. f ≡ first (formRow p n ∷ [])) e form
+
+    pub form-stops : (f .number ≡ 0 → ⊥) → f ≡ first (mapTable d o p)
     unfolding mapTable
-    table en em ek = rw (en, em, ek) refl
+    form-stops = part-refuses (formRow p (stateCount d) ∷ []) (mappedRows d o p) formed
 
-    module _ (en : n ≡ stateCount d) (em : m ≡ arrowCount d) (ek : k ≡ stateCount o) where
-      pub form-stops : (f .number ≡ 0 → ⊥) → f ≡ first (mapTable d o p)
-      form-stops h = part-refuses (formRow p n ∷ []) (mappedRows d o p n m k) form h ∙ table en em ek
-
-      pub mapped-next :
-          {r : Outcome} → f .number ≡ 0 → r ≡ first (mappedRows d o p n m k) → r ≡ first (mapTable d o p)
-      mapped-next z e = part-passes (formRow p n ∷ []) (mappedRows d o p n m k) tt form z e ∙ table en em ek
+    pub mapped-next : {r : Outcome} → f .number ≡ 0 → r ≡ first (mappedRows d o p) → r ≡ first (mapTable d o p)
+    unfolding mapTable
+    mapped-next = part-passes (formRow p (stateCount d) ∷ []) (mappedRows d o p) tt formed

@@ -4,10 +4,11 @@ use mathlib.Core.Bool.{Bool, true, false, not}
 use mathlib.Core.List.{List}
 use Prim.Native.Nat.{ℕ}
 use borrow.Author.Tests.{eq-eqb, ne-eqb}
+use Rattle.tctl.specs.Chart.{Arrow}
 use Rattle.chart.specs.declared.ArrowWords.{ArrowWords}
 use Rattle.chart.specs.Bytes.{labelWord, arrowWords, arrowOf}
 use Rattle.map.specs.Bytes.{entry}
-use Rattle.cover.specs.Covered.{covered}
+use Rattle.cover.specs.Covered.{mappedArrow, covered}
 use Rattle.call_map.specs.Covered.{coveredAt}
 use Rattle.call_map.specs.Refusals.{labelsDiffer}
 
@@ -24,13 +25,10 @@ labels-told d o p v own is other = (
 
 -- ── Row 23: the detail arrow i ──
 
--- the words w are read of arrow i, and the states of its ends of the map
+-- the words w are read of arrow i, which is want where its ends stand
 pub covered-read :
-    (d o p : List ℕ) (i : ℕ) {w : ArrowWords} {from to : ℕ} {r c : Bool} → w ≡ arrowWords d i →
-    from ≡ entry p (w .start) → to ≡ entry p (w .end) → r ≡ covered o from to (arrowOf w) → not r ≡ c →
-    not (coveredAt d o p i) ≡ c
-covered-read d o p i {w} {from} {to} e f g h k =
-    let left = ap (λ x. covered o x to (arrowOf w)) f in
-    let right = ap (λ x. covered o (entry p (w .start)) x (arrowOf w)) g in
-    let whole = ap (λ w. covered o (entry p (w .start)) (entry p (w .end)) (arrowOf w)) e in
-    ap not (sym (h ∙ left ∙ right ∙ whole)) ∙ k
+    (d o p : List ℕ) (i : ℕ) {w : ArrowWords} {want : Arrow} {r c : Bool} → w ≡ arrowWords d i →
+    want ≡ mappedArrow (entry p) (arrowOf w) → r ≡ covered o want → not r ≡ c → not (coveredAt d o p i) ≡ c
+covered-read d o p i e f g h =
+    let same = f ∙ ap (λ w. mappedArrow (entry p) (arrowOf w)) e in
+    ap not (sym (g ∙ ap (covered o) same)) ∙ h

@@ -19,7 +19,7 @@ use Rattle.outcome.proofs.Lowest.{none-below, lowest-none}
 use Rattle.chart.specs.Bytes.{stateCount, arrowCount, labelWord, arrowWords, arrowOf, chartOf}
 use Rattle.chart.proofs.Chart.{states-of, label-of, arrow-mem, arrow-of}
 use Rattle.map.specs.Bytes.{entry, MapFormat}
-use Rattle.cover.specs.Covered.{covered}
+use Rattle.cover.specs.Covered.{mappedArrow, covered}
 use Rattle.call_map.specs.Covered.{coveredAt}
 use Rattle.call_map.specs.Refusals.{labelsDiffer, mapTable}
 use Rattle.map.proofs.Format.{format-iff}
@@ -73,7 +73,7 @@ module _ (d o p : List ℕ) where
     λ e a m.
         let x = arrow-of d a m in
         let y = not-false _ (none-below uncovered (arrowCount d) e (x .0) (x .1)) in
-        let e = ap (λ b. covered o (entry p (b .start)) (entry p (b .end)) b) (x .2) in
+        let e = ap (λ b. covered o (mappedArrow (entry p) b)) (x .2) in
         covered-iff o (entry p) a .0 (e ∙ y),
     λ h. lowest-none uncovered (arrowCount d) λ i l.
         let a = arrowOf (arrowWords d i) in

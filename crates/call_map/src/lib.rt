@@ -5,24 +5,35 @@ ghost use Prim.Native.Nat.{_+_, _*_, _≤_};
 ghost use lib.ListN.{length};
 ghost use Rattle.outcome.specs.Refusal.{first};
 ghost use Rattle.chart.specs.Refusals.{chartRefusal};
-ghost use Rattle.chart.specs.Shape.{Passed};
+ghost use Rattle.chart.specs.Bytes.{arrowCount, arrowOf};
+ghost use Rattle.chart.specs.Shape.{Small, Passed};
+ghost use Rattle.map.specs.Bytes.{entry};
 ghost use Rattle.call_map.specs.Refusals.{mapTable, overviewTable, mapRefusal};
-ghost use Rattle.map.specs.Shape.{Mapped};
-ghost use Rattle.call_map.specs.Rows.{labelRow, coverRow, lastRows, mappedRows};
+ghost use Rattle.cover.specs.Covered.{mappedArrow};
+ghost use Rattle.call_map.specs.Rows.{Sized, Named, Mapping, labelRow, coverRow, lastRows, mappedRows};
+use chart::ArrowWords;
 use outcome::Outcome;
 
-// Row 22.
-fn label_refusal(
-    detail: &[u8],
-    n: usize,
-    m: usize,
-    overview: &[u8],
-    k: usize,
-    l: usize,
-    map: &[u8],
-) -> Outcome
-    requires { ⌜ Passed (now detail) n m × Passed (now overview) k l × Mapped (now map) n k ⌝ }
-    ensures { λ r. ⌜ r ≡ first (labelRow (now (detail .entry)) (now (overview .entry)) (now (map .entry)) n ∷ []) ⌝ }
+// How many states and arrows a chart has.
+pub struct Sizes {
+    pub states: usize,
+    pub arrows: usize,
+}
+
+fn sizes_of(chart: &[u8]) -> Sizes
+    requires { ⌜ chartRefusal (now chart) .number ≡ 0 ⌝ }
+    ensures { λ r. ⌜ Sized (now (chart .entry)) r ⌝ }
+{
+    Sizes {
+        states: chart::state_count(chart),
+        arrows: chart::arrow_count(chart),
+    }
+}
+
+// Row 22, of n detail states.
+fn label_refusal(detail: &[u8], n: usize, overview: &[u8], map: &[u8]) -> Outcome
+    requires { ⌜ Passed (now detail) n (arrowCount (now detail)) × Named (now overview) (now map) n ⌝ }
+    ensures { λ r. ⌜ r ≡ first (labelRow (now (detail .entry)) (now (overview .entry)) (now (map .entry)) ∷ []) ⌝ }
 {
     let mut d = 0;
     while d < n {
@@ -36,27 +47,36 @@ fn label_refusal(
     outcome::accepted()
 }
 
+// The arrow a between the states that its ends stand for.
+fn mapped_arrow(map: &[u8], a: ArrowWords) -> ArrowWords
+    requires { ⌜ (9 + 2 * a .start ≤ length (now map)) × (9 + 2 * a .end ≤ length (now map)) × Small a ⌝ }
+    ensures { λ r. ⌜ (arrowOf r ≡ mappedArrow (entry (now (map .entry))) (arrowOf a)) × Small r ⌝ }
+{
+    ArrowWords {
+        start: map::entry_at(map, a.start),
+        end: map::entry_at(map, a.end),
+        fewest: a.fewest,
+        most: a.most,
+    }
+}
+
 // Row 23.
-fn cover_refusal(
-    detail: &[u8],
-    n: usize,
-    m: usize,
-    overview: &[u8],
-    k: usize,
-    l: usize,
-    map: &[u8],
-) -> Outcome
-    requires { ⌜ Passed (now detail) n m × Passed (now overview) k l × Mapped (now map) n k ⌝ }
-    ensures { λ r. ⌜ r ≡ first (coverRow (now (detail .entry)) (now (overview .entry)) (now (map .entry)) m ∷ []) ⌝ }
+fn cover_refusal(detail: &[u8], lower: Sizes, overview: &[u8], upper: Sizes, map: &[u8]) -> Outcome
+    requires { ⌜ Mapping (now detail) lower (now overview) upper (now map) ⌝ }
+    ensures { λ r. ⌜ r ≡ first (coverRow (now (detail .entry)) (now (overview .entry)) (now (map .entry)) ∷ []) ⌝ }
 {
     let mut i = 0;
     let mut near = 0;
-    while i < m {
-        let a = chart::arrow_at(detail, n, i);
-        let from = map::entry_at(map, a.start);
-        let to = map::entry_at(map, a.end);
-        near = cover::covering_arrow(overview, k, l, near, from, to, a);
-        if l <= near {
+    while i < lower.arrows {
+        let a = chart::arrow_at(detail, lower.states, i);
+        near = cover::covering_arrow(
+            overview,
+            upper.states,
+            upper.arrows,
+            near,
+            mapped_arrow(map, a),
+        );
+        if upper.arrows <= near {
             return outcome::refused(outcome::NOT_COVERED, i as u32);
         }
         i += 1;
@@ -65,43 +85,27 @@ fn cover_refusal(
 }
 
 // Rows 22 and 23.
-fn last_refusal(
-    detail: &[u8],
-    n: usize,
-    m: usize,
-    overview: &[u8],
-    k: usize,
-    l: usize,
-    map: &[u8],
-) -> Outcome
-    requires { ⌜ Passed (now detail) n m × Passed (now overview) k l × Mapped (now map) n k ⌝ }
-    ensures { λ r. ⌜ r ≡ first (lastRows (now (detail .entry)) (now (overview .entry)) (now (map .entry)) n m) ⌝ }
+fn last_refusal(detail: &[u8], lower: Sizes, overview: &[u8], upper: Sizes, map: &[u8]) -> Outcome
+    requires { ⌜ Mapping (now detail) lower (now overview) upper (now map) ⌝ }
+    ensures { λ r. ⌜ r ≡ first (lastRows (now (detail .entry)) (now (overview .entry)) (now (map .entry))) ⌝ }
 {
-    let labels = label_refusal(detail, n, m, overview, k, l, map);
+    let labels = label_refusal(detail, lower.states, overview, map);
     if labels.number != 0 {
         return labels;
     }
-    cover_refusal(detail, n, m, overview, k, l, map)
+    cover_refusal(detail, lower, overview, upper, map)
 }
 
 // Rows 21 to 23, of a map in its format.
-fn mapped_refusal(
-    detail: &[u8],
-    n: usize,
-    m: usize,
-    overview: &[u8],
-    k: usize,
-    l: usize,
-    map: &[u8],
-) -> Outcome
-    requires { ⌜ Passed (now detail) n m × Passed (now overview) k l × (7 + 2 * n ≤ length (now map)) ⌝ }
-    ensures { λ r. ⌜ r ≡ first (mappedRows (now (detail .entry)) (now (overview .entry)) (now (map .entry)) n m k) ⌝ }
+fn mapped_refusal(detail: &[u8], lower: Sizes, overview: &[u8], upper: Sizes, map: &[u8]) -> Outcome
+    requires { ⌜ Sized (now detail) lower × Sized (now overview) upper × (7 + 2 * lower .states ≤ length (now map)) ⌝ }
+    ensures { λ r. ⌜ r ≡ first (mappedRows (now (detail .entry)) (now (overview .entry)) (now (map .entry))) ⌝ }
 {
-    let entries = map::entry_refusal(map, n, k);
+    let entries = map::entry_refusal(map, lower.states, upper.states);
     if entries.number != 0 {
         return entries;
     }
-    last_refusal(detail, n, m, overview, k, l, map)
+    last_refusal(detail, lower, overview, upper, map)
 }
 
 // Rows 20 to 23, of charts that pass checks 1 to 9.
@@ -109,15 +113,13 @@ fn map_refusal(detail: &[u8], overview: &[u8], map: &[u8]) -> Outcome
     requires { ⌜ (chartRefusal (now detail) .number ≡ 0) × (chartRefusal (now overview) .number ≡ 0) ⌝ }
     ensures { λ r. ⌜ r ≡ first (mapTable (now (detail .entry)) (now (overview .entry)) (now (map .entry))) ⌝ }
 {
-    let n = chart::state_count(detail);
-    let m = chart::arrow_count(detail);
-    let k = chart::state_count(overview);
-    let l = chart::arrow_count(overview);
-    let form = map::form_refusal(map, n);
+    let lower = sizes_of(detail);
+    let upper = sizes_of(overview);
+    let form = map::form_refusal(map, lower.states);
     if form.number != 0 {
         return form;
     }
-    mapped_refusal(detail, n, m, overview, k, l, map)
+    mapped_refusal(detail, lower, overview, upper, map)
 }
 
 // The overview's rows: a chart's own, their numbers 40 higher.

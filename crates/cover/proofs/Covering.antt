@@ -13,14 +13,14 @@ use Rattle.outcome.proofs.Found.{found-some}
 use Rattle.outcome.proofs.Lowest.{some-lowest, offender-found}
 use Rattle.chart.specs.Bytes.{arrowCount, arrowWords, arrowOf, chartOf}
 use Rattle.chart.proofs.Chart.{arrow-mem, arrow-of}
-use Rattle.cover.specs.Covered.{contains, covers, covered}
+use Rattle.cover.specs.Covered.{contains, mappedArrow, covers, covered}
 
 contains-iff : (k m : Most) → (contains k m ≡ true) ↔ Contains k m
 contains-iff noEnd m = (λ e. tt, λ h. refl)
 contains-iff (upTo k) (upTo m) = leb-iff m k
 contains-iff (upTo k) noEnd = (λ e. false≢true e, λ h. absurd h)
 
-covers-iff : (f : ℕ → ℕ) (a b : Arrow) → (covers (f (a .start)) (f (a .end)) a b ≡ true) ↔ Covers f a b
+covers-iff : (f : ℕ → ℕ) (a b : Arrow) → (covers (mappedArrow f a) b ≡ true) ↔ Covers f a b
 covers-iff f a b =
     let ends = both-iff (eqb-iff (b .start) (f (a .start))) (eqb-iff (b .end) (f (a .end))) in
     let i = both-iff (both-iff ends (leb-iff (b .fewest) (a .fewest))) (contains-iff (b .most) (a .most)) in (
@@ -31,12 +31,11 @@ covers-iff f a b =
 module _ (o : List ℕ) (f : ℕ → ℕ) (a : Arrow) where
   -- arrow j of the overview's bytes covers a
   abbrev test : ℕ → Bool
-  test j = covers (f (a .start)) (f (a .end)) a (arrowOf (arrowWords o j))
+  test j = covers (mappedArrow f a) (arrowOf (arrowWords o j))
 
   -- the search over the overview's arrows finds one that covers a just where there is one
   pub covered-iff :
-      (covered o (f (a .start)) (f (a .end)) a ≡ true) ↔
-      ((b : Arrow) × List·Memᴰ b (chartOf o .arrows) × Covers f a b)
+      (covered o (mappedArrow f a) ≡ true) ↔ ((b : Arrow) × List·Memᴰ b (chartOf o .arrows) × Covers f a b)
   unfolding covered
   covered-iff = (
     λ e.

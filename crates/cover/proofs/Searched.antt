@@ -36,20 +36,20 @@ ends-iff {x} {y} {u} {v} h i j k =
           both .1 (omega (arith, a .0, b .0), omega (arith, c)),
     )
 
-module _ (o : List ℕ) (from to : ℕ) (a : Arrow) where
-  -- arrow j covers a
+module _ (o : List ℕ) (want : Arrow) where
+  -- arrow j covers want
   abbrev test : ℕ → Bool
-  test j = covers from to a (arrowOf (arrowWords o j))
+  test j = covers want (arrowOf (arrowWords o j))
 
   -- arrow j, of the words b, is the one that r judges
   pub covers-read :
-      (j : ℕ) {b : ArrowWords} {r c : Bool} → b ≡ arrowWords o j → r ≡ covers from to a (arrowOf b) → r ≡ c →
+      (j : ℕ) {b : ArrowWords} {r c : Bool} → b ≡ arrowWords o j → r ≡ covers want (arrowOf b) → r ≡ c →
       test j ≡ c
-  covers-read j e f g = sym (ap (λ w. covers from to a (arrowOf w)) e) ∙ sym f ∙ g
+  covers-read j e f g = sym (ap (λ w. covers want (arrowOf w)) e) ∙ sym f ∙ g
 
   -- what a search for a covering arrow below l answers: one of them, or l where there is none
   module _ {l : ℕ} (e : l ≡ arrowCount o) where
-    pub covered-found : {j : ℕ} → j < l → test j ≡ true → (j ≤ l) × (ltb j l ≡ covered o from to a)
+    pub covered-found : {j : ℕ} → j < l → test j ≡ true → (j ≤ l) × (ltb j l ≡ covered o want)
     unfolding covered
     covered-found {j} k h =
         let below : j < arrowCount o = omega arith in
@@ -57,8 +57,8 @@ module _ (o : List ℕ) (from to : ℕ) (a : Arrow) where
 
     -- Every arrow is one from s on, where the first search passed it, or one before s, where the second did.
     pub covered-nowhere :
-        {s u v : ℕ} → CoverBetween o from to a s l u → l ≤ u → CoverBetween o from to a 0 s v → s ≤ v →
-        (l ≤ l) × (ltb l l ≡ covered o from to a)
+        {s u v : ℕ} → CoverBetween o want s l u → l ≤ u → CoverBetween o want 0 s v → s ≤ v →
+        (l ≤ l) × (ltb l l ≡ covered o want)
     unfolding covered
     covered-nowhere {s} after h before i =
         let none = lowest-none test (arrowCount o) (λ j k. turn j k (decLe s j)) in

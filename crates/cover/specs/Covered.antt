@@ -18,17 +18,24 @@ contains (upTo k) noEnd = false
 abbrev pub endsWord : ℕ → ℕ → ℕ
 endsWord x y = x / 256 + (x % 256 + (y / 256 + y % 256 * 256) * 256) * 256
 
--- the overview arrow b, "from the start's mapped state to the end's has a slot containing the whole slot" of a
-abbrev pub covers : ℕ → ℕ → Arrow → Arrow → Bool
-covers from to a b =
-    eqb (b .start) from && eqb (b .end) to && leb (b .fewest) (a .fewest) && contains (b .most) (a .most)
+-- the arrow a "from the start's mapped state to the end's"
+abbrev pub mappedArrow : (ℕ → ℕ) → Arrow → Arrow
+mappedArrow f a = record { start = f (a .start); end = f (a .end); fewest = a .fewest; most = a .most }
 
--- r is the first arrow of the chart o from lo on and before hi that covers a, or hi where none does
-pub record CoverBetween (o : List ℕ) (from to : ℕ) (a : Arrow) (lo hi r : ℕ) : Type 0 where
+-- the overview arrow b goes where want does, and "has a slot containing the whole slot" of it
+abbrev pub covers : Arrow → Arrow → Bool
+covers want b =
+    eqb (b .start) (want .start) &&
+    eqb (b .end) (want .end) &&
+    leb (b .fewest) (want .fewest) &&
+    contains (b .most) (want .most)
+
+-- r is the first arrow of the chart o from lo on and before hi that covers want, or hi where none does
+pub record CoverBetween (o : List ℕ) (want : Arrow) (lo hi r : ℕ) : Type 0 where
   pub inside : r ≤ hi
-  pub under : (j : ℕ) → j < r → lo ≤ j → covers from to a (arrowOf (arrowWords o j)) ≡ false
-  pub here : r < hi → covers from to a (arrowOf (arrowWords o r)) ≡ true
+  pub under : (j : ℕ) → j < r → lo ≤ j → covers want (arrowOf (arrowWords o j)) ≡ false
+  pub here : r < hi → covers want (arrowOf (arrowWords o r)) ≡ true
 
 -- "one overview arrow" of the chart o does; "several joined don't count"
-unfoldable pub covered : List ℕ → ℕ → ℕ → Arrow → Bool
-covered o from to a = found (lowest (λ j. covers from to a (arrowOf (arrowWords o j))) (arrowCount o))
+unfoldable pub covered : List ℕ → Arrow → Bool
+covered o want = found (lowest (λ j. covers want (arrowOf (arrowWords o j))) (arrowCount o))

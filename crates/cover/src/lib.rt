@@ -2,7 +2,7 @@
 ghost use mathlib.Core.Path.{_≡_};
 ghost use Prim.Native.Nat.{_-_, _≤_, _<_};
 ghost use lib.Dec.{ltb};
-ghost use Rattle.chart.specs.Bytes.{arrowOf, mostOf};
+ghost use Rattle.chart.specs.Bytes.{arrowCount, arrowOf, mostOf};
 ghost use Rattle.chart.specs.Shape.{Small, Passed};
 ghost use Rattle.cover.specs.Covered.{contains, endsWord, covers, CoverBetween, covered};
 use chart::ArrowWords;
@@ -30,38 +30,29 @@ fn ends_word(start: usize, end: usize) -> u32
     x / 256 + (x % 256 + (y / 256 + y % 256 * 256) * 256) * 256
 }
 
-// The overview arrow b covers the detail arrow a, whose ends stand for the states from and to.
-fn covers_arrow(from: usize, to: usize, a: ArrowWords, b: ArrowWords) -> bool
-    requires { ⌜ (from < 65536) × (to < 65536) × Small b ⌝ }
-    ensures { λ r. ⌜ r ≡ covers from to (arrowOf a) (arrowOf b) ⌝ }
+// The overview arrow b covers want: a detail arrow whose ends are the overview states that they stand for.
+fn covers_arrow(want: ArrowWords, b: ArrowWords) -> bool
+    requires { ⌜ Small want × Small b ⌝ }
+    ensures { λ r. ⌜ r ≡ covers (arrowOf want) (arrowOf b) ⌝ }
 {
-    if ends_word(b.start, b.end) != ends_word(from, to) {
+    if ends_word(b.start, b.end) != ends_word(want.start, want.end) {
         return false;
     }
-    if a.fewest < b.fewest {
+    if want.fewest < b.fewest {
         return false;
     }
-    contains_most(b.most, a.most)
+    contains_most(b.most, want.most)
 }
 
-// The first overview arrow from lo on and before hi that covers the detail arrow a; hi where none does.
-fn cover_between(
-    overview: &[u8],
-    k: usize,
-    l: usize,
-    lo: usize,
-    hi: usize,
-    from: usize,
-    to: usize,
-    a: ArrowWords,
-) -> usize
-    requires { ⌜ Passed (now overview) k l × (lo ≤ hi) × (hi ≤ l) × (from < 65536) × (to < 65536) ⌝ }
-    ensures { λ r. ⌜ CoverBetween (now (overview .entry)) from to (arrowOf a) lo hi r ⌝ }
+// The first overview arrow from lo on and before hi that covers want; hi where none does.
+fn cover_between(overview: &[u8], k: usize, lo: usize, hi: usize, want: ArrowWords) -> usize
+    requires { ⌜ (let l = arrowCount (now overview) in Passed (now overview) k l × (lo ≤ hi) × (hi ≤ l) × Small want) ⌝ }
+    ensures { λ r. ⌜ CoverBetween (now (overview .entry)) (arrowOf want) lo hi r ⌝ }
 {
     let mut j = lo;
     while j < hi {
         let b = chart::arrow_at(overview, k, j);
-        if covers_arrow(from, to, a, b) {
+        if covers_arrow(want, b) {
             return j;
         }
         j += 1;
@@ -79,26 +70,18 @@ fn one_before(i: usize) -> usize
     i - 1
 }
 
-// An overview arrow that covers the detail arrow a; l where none does. The search begins one before the arrow near, the
-// last one's answer, and goes round: in charts listed alike, or one against the other, it takes a step or three.
-pub fn covering_arrow(
-    overview: &[u8],
-    k: usize,
-    l: usize,
-    near: usize,
-    from: usize,
-    to: usize,
-    a: ArrowWords,
-) -> usize
-    requires { ⌜ Passed (now overview) k l × (near ≤ l) × (from < 65536) × (to < 65536) ⌝ }
-    ensures { λ r. ⌜ (r ≤ l) × (ltb r l ≡ covered (now (overview .entry)) from to (arrowOf a)) ⌝ }
+// An overview arrow that covers want; l where none does. The search begins one before the arrow near, the last one's
+// answer, and goes round: in charts listed alike, or one against the other, it takes a step or three.
+pub fn covering_arrow(overview: &[u8], k: usize, l: usize, near: usize, want: ArrowWords) -> usize
+    requires { ⌜ Passed (now overview) k l × (near ≤ l) × Small want ⌝ }
+    ensures { λ r. ⌜ (r ≤ l) × (ltb r l ≡ covered (now (overview .entry)) (arrowOf want)) ⌝ }
 {
     let start = one_before(near);
-    let after = cover_between(overview, k, l, start, l, from, to, a);
+    let after = cover_between(overview, k, start, l, want);
     if after < l {
         return after;
     }
-    let before = cover_between(overview, k, l, 0, start, from, to, a);
+    let before = cover_between(overview, k, 0, start, want);
     if before < start {
         return before;
     }

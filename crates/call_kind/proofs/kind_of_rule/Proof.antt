@@ -1,6 +1,7 @@
 -- A refusal is handed on; past it the rule is accepted, and its last node is judged by the two tests.
 use mathlib.Core.Path.{_≡_, refl, sym, ap, _∙_}
-use Prim.Native.Nat.{_-_}
+use mathlib.Core.List.{List}
+use Prim.Native.Nat.{ℕ, _-_}
 use native.Mathlib.Omega.{arith}
 use borrow.Author.Needs.{needs}
 use denote.Ref.{now}
@@ -14,38 +15,51 @@ use Rattle.call_kind.proofs.Answer.{refused, answered}
 use Rattle.call_kind.proofs.kind_of_rule.Statement.{statement}
 use Rattle.call_kind.proofs.kind_of_rule.Tie as tie
 
--- past the test the rule is accepted
-passed : (c : tie.Else1) → ruleRefusal (now (c .before .before .before .before .args .rule)) .number ≡ 0
-passed c = ap (λ o. o .number) (sym (c .before .before .rule-refusal .ensures)) ∙ c .if1 .left
+-- the start, and where the rule passed its test
+abbrev start : tie.After-rule-refusal → tie.Start
+start c = c .before .before
 
-shape : (c : tie.Else1) → let s = now (c .before .before .before .before .args .rule) in Shape s (nodeCount s)
-shape c = rule.accepted _ (passed c) .shape
+abbrev past : tie.After-all-runs → tie.Else1
+past c = c .before .before
+
+module _ (c : tie.Else1) where
+  abbrev tested : tie.After-rule-refusal
+  tested = c .before .before
+
+  abbrev s : List ℕ
+  s = now (start tested .args .rule)
+
+  -- past the test the rule is accepted
+  passed : ruleRefusal s .number ≡ 0
+  passed = ap (λ o. o .number) (sym (tested .rule-refusal .ensures)) ∙ c .if1 .left
+
+  shape : Shape s (nodeCount s)
+  shape = rule.accepted _ passed .shape
 
 returns : tie.Need-returns
 returns c =
-    refused (now (c .before .before .before .before .args .rule)) (c .before .before .rule-refusal .ensures)
-    (c .if1 .taken) refl
+    let asked = c .before in
+    refused _ (asked .before .rule-refusal .ensures) (c .if1 .taken) refl
 
 node-count-requires : tie.Need-node-count-requires
 node-count-requires c κs = let h = shape c in omega (arith, h .whole, h .some-nodes)
 
 sub-last : tie.Need-sub-last
-sub-last c = let h = shape (c .before) in omega (arith, h .some-nodes)
+sub-last c = omega (arith, shape (c .before) .some-nodes)
 
 all-runs-requires : tie.Need-all-runs-requires
-all-runs-requires c κs = let h = shape (c .before) in (passed (c .before), omega (arith, h .some-nodes))
+all-runs-requires c κs = (passed (c .before), omega (arith, shape (c .before) .some-nodes))
 
 some-run-requires : tie.Need-some-run-requires
-some-run-requires c κs = let h = shape (c .before .before) in (passed (c .before .before), omega (arith, h .some-nodes))
+some-run-requires c κs = (passed (past c), omega (arith, shape (past c) .some-nodes))
 
 returns-2 : tie.Need-returns-2
 returns-2 c =
-    let s = now (c .before .before .before .before .before .before .before .before .args .rule) in
-    let e = ap (λ k. formulaAt s (k - 1)) (c .before .before .before .node-count .ensures .0) in
-    answered s (c .before .before .before .before .before .before .rule-refusal .ensures)
-    (c .before .before .before .before .if1 .left)
-    (c .before .before .all-runs .ensures ∙ ap (isOf allRuns) e)
-    (c .before .some-run .ensures ∙ ap (isOf someRun) e)
+    let some = c .before in
+    let all = some .before in
+    let e = ap (λ k. formulaAt (s (past all)) (k - 1)) (all .before .node-count .ensures .0) in
+    answered (s (past all)) (tested (past all) .rule-refusal .ensures) (past all .if1 .left)
+    (all .all-runs .ensures ∙ ap (isOf allRuns) e) (some .some-run .ensures ∙ ap (isOf someRun) e)
     (c .kind-for .ensures)
 
 pub kind-of-rule-spec : {M : Type 1} → statement M

@@ -1,4 +1,6 @@
 -- The detail's rows, the overview's, and those of the map.
+use mathlib.Core.List.{List}
+use Prim.Native.Nat.{ℕ}
 use borrow.Author.Needs.{needs}
 use denote.Ref.{now}
 use Rattle.outcome.proofs.First.{part-zero}
@@ -10,51 +12,59 @@ use Rattle.call_map.proofs.Chain.{lower-refuses, upper-refuses, map-nex
 use Rattle.call_map.proofs.map_check.Statement.{statement}
 use Rattle.call_map.proofs.map_check.Tie as tie
 
+-- where the detail was tested, and the charts and the map
+module _ (c : tie.After-accepted-refusal) where
+  abbrev start : tie.Start
+  start = c .before .before .before .before
+
+  abbrev d : List ℕ
+  d = now (start .args .detail)
+
+  abbrev o : List ℕ
+  o = now (start .args .overview)
+
+  abbrev p : List ℕ
+  p = now (start .args .map)
+
+-- from where the overview was tested: the detail passed, and was tested
+module _ (c : tie.After-overview-refusal) where
+  abbrev passed : tie.Else1
+  passed = c .before
+
+  abbrev lower : tie.After-accepted-refusal
+  lower = passed .before .before
+
 returns : tie.Need-returns
 returns c =
-    let lower-tested = c .before .before in
-    let a = lower-tested .before .before .before .before .args in
-    let d = now (a .detail) in
-    let o = now (a .overview) in
-    let p = now (a .map) in
-    lower-refuses d o p (lower-tested .accepted-refusal .ensures) (c .if1 .taken)
+    let tested = c .before in
+    let lower = tested .before in
+    lower-refuses (d lower) (o lower) (p lower) (lower .accepted-refusal .ensures) (c .if1 .taken)
 
 returns-2 : tie.Need-returns-2
 returns-2 c =
-    let upper-tested = c .before .before in
-    let lower-passed = upper-tested .before in
-    let lower-tested = lower-passed .before .before in
-    let a = lower-tested .before .before .before .before .args in
-    let d = now (a .detail) in
-    let o = now (a .overview) in
-    let p = now (a .map) in
-    upper-refuses d o p (lower-tested .accepted-refusal .ensures) (lower-passed .if1 .left)
-    (upper-tested .overview-refusal .ensures) (c .if2 .taken)
+    let tested = c .before in
+    let upper = tested .before in
+    let first = lower upper in
+    upper-refuses (d first) (o first) (p first) (first .accepted-refusal .ensures) (passed upper .if1 .left)
+    (upper .overview-refusal .ensures) (c .if2 .taken)
 
 map-refusal-requires : tie.Need-map-refusal-requires
 map-refusal-requires c κs =
-    let upper-tested = c .before .before in
-    let lower-passed = upper-tested .before in
-    let lower-tested = lower-passed .before .before in
-    let a = lower-tested .before .before .before .before .args in
-    let d = now (a .detail) in
-    let o = now (a .overview) in
-    let lower = part-zero (acceptedTable d) (lower-tested .accepted-refusal .ensures) (lower-passed .if1 .left) in
-    let upper = part-zero (overviewTable o) (upper-tested .overview-refusal .ensures) (c .if2 .left) in
-    (chart-passed d lower, chart-passed o (overview-passed o upper))
+    let tested = c .before in
+    let upper = tested .before in
+    let first = lower upper in
+    let below = part-zero (acceptedTable (d first)) (first .accepted-refusal .ensures) (passed upper .if1 .left) in
+    let above = part-zero (overviewTable (o first)) (upper .overview-refusal .ensures) (c .if2 .left) in
+    (chart-passed (d first) below, chart-passed (o first) (overview-passed (o first) above))
 
 returns-3 : tie.Need-returns-3
 returns-3 c =
-    let upper-passed = c .before in
-    let upper-tested = upper-passed .before .before in
-    let lower-passed = upper-tested .before in
-    let lower-tested = lower-passed .before .before in
-    let a = lower-tested .before .before .before .before .args in
-    let d = now (a .detail) in
-    let o = now (a .overview) in
-    let p = now (a .map) in
-    map-next d o p (lower-tested .accepted-refusal .ensures) (lower-passed .if1 .left)
-    (upper-tested .overview-refusal .ensures) (upper-passed .if2 .left) (c .map-refusal .ensures)
+    let both = c .before in
+    let tested = both .before in
+    let upper = tested .before in
+    let first = lower upper in
+    map-next (d first) (o first) (p first) (first .accepted-refusal .ensures) (passed upper .if1 .left)
+    (upper .overview-refusal .ensures) (both .if2 .left) (c .map-refusal .ensures)
 
 pub map-check-spec : {M : Type 1} → statement M
 map-check-spec =

@@ -11,12 +11,19 @@ use Rattle.call_row.proofs.Within.{within}
 use Rattle.call_row.proofs.part.Statement.{statement}
 use Rattle.call_row.proofs.part.Tie as tie
 
+-- the start, and where the place was answered
+abbrev start : tie.After-row-place → tie.Start
+start c = c .before .before
+
+abbrev placed : tie.After-result → tie.After-row-place
+placed c = c .before .before
+
 -- the place that was answered lies in the table
 lies :
     (c : tie.After-row-place) →
-    c .row-place .result .start + c .row-place .result .size ≤ length (now (c .before .before .args .table))
+    c .row-place .result .start + c .row-place .result .size ≤ length (now (start c .args .table))
 lies c =
-    let a = c .before .before .args in
+    let a = start c .args in
     let size = length (now (a .table)) in
     subst (λ p. p .start + p .size ≤ size) (sym (c .row-place .ensures)) (within size (a .n) (a .t))
 
@@ -28,9 +35,9 @@ part-result-end c = lies (c .before)
 
 returns : tie.Need-returns
 returns c =
-    let a = c .before .before .before .before .args in
-    let p = c .before .before .row-place .result in
-    subst (Part (a .table) _) (c .before .before .row-place .ensures) (
+    let a = start (placed c) .args in
+    let p = placed c .row-place .result in
+    subst (Part (a .table) _) (placed c .row-place .ensures) (
     record {
       bytes = ap (λ k. take k (drop (p .start) (now (a .table)))) (add-sub-cancel-left (p .start) (p .size));
       pointer = ap (λ k. (a .table .ptr .0, k)) (omega arith);

@@ -1,4 +1,4 @@
--- Invariant: no overview arrow from lo on and before j covers a.
+-- Invariant: no overview arrow from lo on and before j covers want.
 use mathlib.Core.Path.{_≡_}
 use mathlib.Core.Bool.{Bool, false}
 use Prim.Native.Nat.{ℕ, _≤_, _<_, _-_}
@@ -14,11 +14,11 @@ use Rattle.cover.proofs.cover_between.Statement.{statement}
 use Rattle.cover.proofs.cover_between.Tie as tie
 
 abbrev Inv-loop : tie.InvT-loop
-Inv-loop overview k l lo hi from to a j₀ j =
-    (j ≤ hi) × ((i : ℕ) → i < j → lo ≤ i → covers from to (arrowOf a) (arrowOf (arrowWords overview i)) ≡ false)
+Inv-loop overview k lo hi want j₀ j =
+    (j ≤ hi) × ((i : ℕ) → i < j → lo ≤ i → covers (arrowOf want) (arrowOf (arrowWords overview i)) ≡ false)
 
 abbrev μ-loop : tie.MeasureT-loop
-μ-loop overview k l lo hi from to a j₀ j = hi - j
+μ-loop overview k lo hi want j₀ j = hi - j
 
 -- the start, and the loop's stop
 abbrev start : tie.At-loop Inv-loop μ-loop → tie.Start Inv-loop μ-loop
@@ -35,11 +35,9 @@ module _ (c : tie.After-covers-arrow Inv-loop μ-loop) where
   told :
       {b : Bool} → c .covers-arrow .result ≡ b →
       let a = start at-loop .args in
-      covers (a .from) (a .to) (arrowOf (a .a)) (arrowOf (arrowWords (now (a .overview)) (at-loop .loop .j))) ≡ b
+      covers (arrowOf (a .want)) (arrowOf (arrowWords (now (a .overview)) (at-loop .loop .j))) ≡ b
   told g =
-      let a = start at-loop .args in
-      covers-read (now (a .overview)) (a .from) (a .to) (arrowOf (a .a)) (at-loop .loop .j)
-      (c .before .arrow-at .ensures .0) (c .covers-arrow .ensures) g
+      covers-read _ _ (at-loop .loop .j) (c .before .arrow-at .ensures .0) (c .covers-arrow .ensures) g
 
 loop-holds : tie.Need-loop-holds Inv-loop μ-loop
 loop-holds c = (omega arith, λ i h m. absurd (let z : ⊥ = omega arith in z))
@@ -52,7 +50,7 @@ arrow-at-requires c κs =
 covers-arrow-requires : tie.Need-covers-arrow-requires Inv-loop μ-loop
 covers-arrow-requires c κs =
     let p = start (loop c) .pre in
-    (p .3, p .4, c .arrow-at .ensures .1)
+    (p .3, c .arrow-at .ensures .1)
 
 returns : tie.Need-returns Inv-loop μ-loop
 returns c =

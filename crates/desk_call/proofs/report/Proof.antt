@@ -1,4 +1,5 @@
 -- What is printed follows from the answer of the check.
+use Prim.Native.Nat.{_*_, _≤_}
 use native.Mathlib.Omega.{arith}
 use borrow.Author.Needs.{needs}
 use Rattle.listing.proofs.Append.{shown-text}
@@ -6,49 +7,70 @@ use Rattle.desk_call.proofs.Answer.{refusal-printed, listing-printed, c
 use Rattle.desk_call.proofs.report.Statement.{statement}
 use Rattle.desk_call.proofs.report.Tie as tie
 
+-- the check, seen from the test of its answer
+abbrev check : tie.After-struct-known → tie.After-check
+check c = c .before .before .before
+
+-- refused: that it was, and where the line was written
+abbrev met : tie.After-refuse → tie.Then1
+met c = c .before .before
+
+abbrev refused : tie.After-slice-known2 → tie.After-refuse
+refused c = c .before .before
+
+-- accepted: that it was, where the nodes were counted, and where they were listed
+abbrev passed : tie.After-node-count → tie.Else1
+passed c = c .before .before
+
+abbrev nodes : tie.After-list-arg → tie.After-node-count
+nodes c = c .before .before
+
+abbrev listed : tie.After-slice-known3 → tie.After-list
+listed c = c .before .before
+
+-- the marks of the nodes that were counted, one for each state
+few : (c : tie.After-node-count) → c .node-count .result * c .before .state-count .result ≤ 16384
+few c =
+    let test = passed c in
+    let told = check (test .before) .check .ensures in
+    rw (c .node-count .ensures .0, c .before .state-count .ensures .0) (few-marks _ _ told (test .if1 .left))
+
 returns : tie.Need-returns
 returns c =
-    let refused = c .before .before in
-    let check = refused .before .before .before .before .before .before in
-    let e = refusal-printed _ _ (check .check .ensures) (refused .before .before .if1 .taken) in
-    shown-text e (refused .refuse .ensures)
+    let test = met (refused c) in
+    let e = refusal-printed _ _ (check (test .before) .check .ensures) (test .if1 .taken) in
+    shown-text e (refused c .refuse .ensures)
 
 state-count-requires : tie.Need-state-count-requires
-state-count-requires c κs =
-    let check = c .before .before .before .before in
-    chart-formed _ _ (check .check .ensures) (c .if1 .left) .head .enough
+state-count-requires c κs = chart-formed _ _ (check (c .before) .check .ensures) (c .if1 .left) .head .enough
 
 node-count-requires : tie.Need-node-count-requires
 node-count-requires c κs =
-    let check = c .before .before .before .before .before in
-    omega (arith, rule-shaped _ _ (check .check .ensures) (c .before .if1 .left) .whole)
+    let test = c .before in
+    omega (arith, rule-shaped _ _ (check (test .before) .check .ensures) (test .if1 .left) .whole)
 
 list-requires : tie.Need-list-requires
 list-requires c κs =
-    let nodes = c .before .before in
-    let states = nodes .before in
-    let passed = states .before in
-    let check = passed .before .before .before .before in
-    let told = check .check .ensures in
-    let z = passed .if1 .left in
-    let n = states .state-count .ensures .0 in
-    let k = nodes .node-count .ensures .0 in (
+    let test = passed (nodes c) in
+    let done = check (test .before) in
+    let told = done .check .ensures in
+    let z = test .if1 .left in
+    let n = nodes c .before .state-count .ensures .0 in
+    let k = nodes c .node-count .ensures .0 in (
       omega (arith, chart-formed _ _ told z .shape .few-states, n),
       omega (arith, rule-shaped _ _ told z .few-nodes, k),
-      rw (n, k) (omega (arith, few-marks _ _ told z, check .check .kept .1 .1 .0)),
+      omega (arith, few (nodes c), done .check .kept .1 .1 .0),
       omega arith,
     )
 
 returns-2 : tie.Need-returns-2
 returns-2 c =
-    let listed = c .before .before in
-    let nodes = listed .before .before .before in
-    let states = nodes .before in
-    let passed = states .before in
-    let check = passed .before .before .before .before in
-    let e = states .state-count .ensures .0 in
-    let f = nodes .node-count .ensures .0 in
-    shown-text (listing-printed _ _ (check .check .ensures) (passed .if1 .left) e f) (listed .list .ensures)
+    let counted = nodes (listed c .before) in
+    let test = passed counted in
+    let n = counted .before .state-count .ensures .0 in
+    let k = counted .node-count .ensures .0 in
+    let e = listing-printed _ _ (check (test .before) .check .ensures) (test .if1 .left) n k in
+    shown-text e (listed c .list .ensures)
 
 pub report-spec : {M : Type 1} → statement M
 report-spec =

@@ -3,7 +3,7 @@ use mathlib.Core.Path.{refl, sym, _∙_}
 use native.Mathlib.Omega.{arith}
 use borrow.Author.Needs.{needs}
 use Prim.Native.Nat.{ℕ, _<_}
-use borrow.Fn.Kinds.{In}
+use borrow.Fn.Kinds.{In, Out}
 use borrow.Fn.PlainCycle.{Measures, is, falls, and}
 use Rattle.listing.proofs.Append.{appended-text, appended-both, room-text, room-first, room-second}
 use Rattle.listing.proofs.Decimal.{decimal-last, decimal-more}
@@ -30,62 +30,79 @@ abbrev calls : ℕ → lts.Claims
 calls t =
     (digit-reads.Asked, digit-reads.Learnt, put-reads.Asked, put-reads.Learnt, below t, put-number.Post)
 
-digit-requires : (t : ℕ) → lts.Need-digit-requires (calls t) (given t) put-number.Post
-digit-requires t c κs = search needs
+module _ (t : ℕ) where
+  -- a stop, or a need of the proof, at the number t
+  abbrev At : (lts.Claims → In 1 put-number-kinds.ps → Out 1 put-number-kinds.ps put-number-kinds.r → Type 0) → Type 0
+  At R = R (calls t) (given t) put-number.Post
 
-put-requires : (t : ℕ) → lts.Need-put-requires (calls t) (given t) put-number.Post
-put-requires t c κs =
-    let test = c .before .before in
-    room-text (decimal-last (c .before .digit .ensures) (test .if1 .taken)) (test .before .before .pre .1)
+  -- one digit: where it was written
+  abbrev written : At lts.After-slice-known2 → At lts.After-put
+  written c = c .before .before
 
-same-length : (t : ℕ) → lts.Need-same-length (calls t) (given t) put-number.Post
-same-length t c = c .before .before .put .kept .1 .1 .0
+  -- more digits: the start, the test, the first digits, and the last one
+  abbrev start : At lts.After-put-number-arg → At lts.Start
+  start c = c .before .before .before
 
-returns : (t : ℕ) → lts.Need-returns (calls t) (given t) put-number.Post
-returns t c =
-    let p = c .before .before in
-    let d = p .before .before in
-    appended-text (sym (decimal-last (d .digit .ensures) (d .before .if1 .taken))) (p .put .ensures)
+  abbrev more : At lts.After-put-number → At lts.Else1
+  more c = c .before .before
 
-put-number-requires : (t : ℕ) → lts.Need-put-number-requires (calls t) (given t) put-number.Post
-put-number-requires t c κs =
-    let h = c .before .before .before .pre in (
-      omega (arith, h .0, c .before .if1 .left),
-      room-first _ _ (room-text (decimal-more refl (c .before .if1 .left)) (h .1)),
-    )
+  abbrev firsts : At lts.After-digit2 → At lts.After-put-number
+  firsts c = c .before .before .before
 
-digit-requires-2 : (t : ℕ) → lts.Need-digit-requires-2 (calls t) (given t) put-number.Post
-digit-requires-2 t c κs = search needs
+  abbrev last : At lts.After-slice-known4 → At lts.After-put2
+  last c = c .before .before
 
-put-requires-2 : (t : ℕ) → lts.Need-put-requires-2 (calls t) (given t) put-number.Post
-put-requires-2 t c κs =
-    let p = c .before .before .before .before in
-    let e = decimal-more (c .before .digit2 .ensures) (p .before .before .if1 .left) in
-    room-second _ (p .put-number .ensures) (room-text e (p .before .before .before .before .pre .1))
+  digit-requires : At lts.Need-digit-requires
+  digit-requires c κs = search needs
 
-same-length-2 : (t : ℕ) → lts.Need-same-length-2 (calls t) (given t) put-number.Post
-same-length-2 t c =
-    let p = c .before .before in
-    p .put2 .kept .1 .1 .0 ∙ p .before .before .before .before .before .put-number .kept .1 .1 .0
+  put-requires : At lts.Need-put-requires
+  put-requires c κs =
+      let digit = c .before in
+      let test = digit .before in
+      let known = test .before in
+      room-text (decimal-last (digit .digit .ensures) (test .if1 .taken)) (known .before .pre .1)
 
-returns-2 : (t : ℕ) → lts.Need-returns-2 (calls t) (given t) put-number.Post
-returns-2 t c =
-    let q = c .before .before in
-    let d = q .before .before in
-    let p = d .before .before .before in
-    appended-text (sym (decimal-more (d .digit2 .ensures) (p .before .before .if1 .left)))
-    (appended-both (p .put-number .ensures) (q .put2 .ensures))
+  same-length : At lts.Need-same-length
+  same-length c = written c .put .kept .1 .1 .0
+
+  returns : At lts.Need-returns
+  returns c =
+      let arg = written c .before in
+      let digit = arg .before in
+      appended-text (sym (decimal-last (digit .digit .ensures) (digit .before .if1 .taken))) (written c .put .ensures)
+
+  put-number-requires : At lts.Need-put-number-requires
+  put-number-requires c κs =
+      let h = start c .pre in (
+        omega (arith, h .0, c .before .if1 .left),
+        room-first _ _ (room-text (decimal-more refl (c .before .if1 .left)) (h .1)),
+      )
+
+  digit-requires-2 : At lts.Need-digit-requires-2
+  digit-requires-2 c κs = search needs
+
+  put-requires-2 : At lts.Need-put-requires-2
+  put-requires-2 c κs =
+      let digit = c .before in
+      let p = firsts digit in
+      let e = decimal-more (digit .digit2 .ensures) (more p .if1 .left) in
+      room-second _ (p .put-number .ensures) (room-text e (start (p .before) .pre .1))
+
+  same-length-2 : At lts.Need-same-length-2
+  same-length-2 c =
+      let arg = last c .before in
+      last c .put2 .kept .1 .1 .0 ∙ firsts (arg .before) .put-number .kept .1 .1 .0
+
+  returns-2 : At lts.Need-returns-2
+  returns-2 c =
+      let arg = last c .before in
+      let digit = arg .before in
+      let p = firsts digit in
+      appended-text (sym (decimal-more (digit .digit2 .ensures) (more p .if1 .left)))
+      (appended-both (p .put-number .ensures) (last c .put2 .ensures))
 
 pub +put-number-spec : {M : Type 1} → statement M
-+put-number-spec = close μ-put-number λ t. lts.spec (calls t)
-    (given t)
-    put-number.Post
-    (digit-requires t)
-    (put-requires t)
-    (same-length t)
-    (returns t)
-    (put-number-requires t)
-    (digit-requires-2 t)
-    (put-requires-2 t)
-    (same-length-2 t)
++put-number-spec =
+    close μ-put-number λ t. lts.spec (calls t) (given t) put-number.Post (digit-requires t) (put-requires t)
+    (same-length t) (returns t) (put-number-requires t) (digit-requires-2 t) (put-requires-2 t) (same-length-2 t)
     (returns-2 t)

@@ -8,38 +8,45 @@ use Rattle.listing.proofs.Sizes.{listing-room}
 use Rattle.listing.proofs.list.Statement.{statement}
 use Rattle.listing.proofs.list.Tie as tie
 
+-- the stops, each from the one after it: the start, the counts, the end of their line, and the nodes' lines
+abbrev start : tie.After-put-numbers-arg3 → tie.Start
+start c = c .before .before .before .before .before
+
+abbrev counts : tie.After-put-arg → tie.After-put-numbers
+counts c = c .before .before .before
+
+abbrev line : tie.After-put-nodes-arg → tie.After-put
+line c = c .before .before .before
+
+abbrev lines : tie.After-slice-known4 → tie.After-put-nodes
+lines c = c .before .before
+
 room : (s : tie.Start) → let a = s .args in Room 0 (listing (a .n) (a .k) (now (a .marks))) (now (a .out))
 room s = listing-room _ _ _ _ (s .pre .0) (s .pre .1) (s .pre .3)
 
 put-numbers-requires : tie.Need-put-numbers-requires
 unfolding listing
-put-numbers-requires c κs =
-    room-first _ newline (room-first _ _ (room (c .before .before .before .before .before)))
+put-numbers-requires c κs = room-first _ newline (room-first _ _ (room (start c)))
 
 put-requires : tie.Need-put-requires
 unfolding listing
 put-requires c κs =
-    let counts = c .before .before .before in
-    let start = counts .before .before .before .before .before .before in
-    room-second _ (counts .put-numbers .ensures) (room-first _ _ (room start))
+    room-second _ (counts c .put-numbers .ensures) (room-first _ _ (room (start (counts c .before))))
 
 put-nodes-requires : tie.Need-put-nodes-requires
 unfolding listing
 put-nodes-requires c κs =
-    let line = c .before .before .before in
-    let counts = line .before .before .before .before in
-    let start = counts .before .before .before .before .before .before in
-    (start .pre .2, room-second _ (appended-both (counts .put-numbers .ensures) (line .put .ensures)) (room start))
+    let two = counts (line c .before) in
+    let s = start (two .before) in
+    (s .pre .2, room-second _ (appended-both (two .put-numbers .ensures) (line c .put .ensures)) (room s))
 
 returns : tie.Need-returns
 unfolding listing
 returns c =
-    let lines = c .before .before in
-    let line = lines .before .before .before .before in
-    let counts = line .before .before .before .before in
-    let first = appended-both (counts .put-numbers .ensures) (line .put .ensures) in
-    shown (room (counts .before .before .before .before .before .before))
-    (appended-both first (lines .put-nodes .ensures))
+    let ended = line (lines c .before) in
+    let two = counts (ended .before) in
+    let first = appended-both (two .put-numbers .ensures) (ended .put .ensures) in
+    shown (room (start (two .before))) (appended-both first (lines c .put-nodes .ensures))
 
 pub list-spec : {M : Type 1} → statement M
 list-spec =

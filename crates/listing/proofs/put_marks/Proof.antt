@@ -18,6 +18,16 @@ Inv-loop marks start n at out₀ end₀ s₀ out end s = (s ≤ n) × Appended a
 abbrev μ-loop : tie.MeasureT-loop
 μ-loop marks start n at out₀ end₀ s₀ out end s = n - s
 
+-- the start, the loop's stop, and where a mark was written
+abbrev start : tie.At-loop Inv-loop μ-loop → tie.Start Inv-loop μ-loop
+start c = c .before .before .before
+
+abbrev inside : tie.After-mark-digit Inv-loop μ-loop → tie.In-loop Inv-loop μ-loop
+inside c = c .before .before
+
+abbrev put : tie.After-slice-known2 Inv-loop μ-loop → tie.After-put Inv-loop μ-loop
+put c = c .before .before
+
 loop-holds : tie.Need-loop-holds Inv-loop μ-loop
 unfolding markLine
 loop-holds c = (omega arith, joined-none _)
@@ -25,21 +35,22 @@ loop-holds c = (omega arith, joined-none _)
 put-requires : tie.Need-put-requires Inv-loop μ-loop
 unfolding markLine
 put-requires c κs =
-    let at-loop = c .before .before .before .before in
-    let start = at-loop .before .before .before in
+    let marked = c .before in
+    let at-loop = inside marked .before in
+    let s = start at-loop in
     let loop = at-loop .loop in
-    let below = c .before .before .before .loop-test .taken in
-    rw (c .before .mark-digit .ensures) (joined-room _ (loop .s) (start .args .n) (loop .inv .1) below (start .pre .1))
+    let below = inside marked .loop-test .taken in
+    rw (marked .mark-digit .ensures) (joined-room _ (loop .s) (s .args .n) (loop .inv .1) below (s .pre .1))
 
 loop-again : tie.Need-loop-again Inv-loop μ-loop
 unfolding markLine
 loop-again c =
-    let put = c .before .before in
-    let marked = put .before .before in
-    let at-loop = marked .before .before .before in (
+    let arg = put c .before in
+    let marked = arg .before in
+    let at-loop = inside marked .before in (
       omega arith,
       joined-more _ (at-loop .loop .s) (at-loop .loop .inv .1)
-          (appended-text (ap (λ (b : ℕ). b ∷ []) (marked .mark-digit .ensures)) (put .put .ensures)),
+          (appended-text (ap (λ (b : ℕ). b ∷ []) (marked .mark-digit .ensures)) (put c .put .ensures)),
     )
 
 same-length : tie.Need-same-length Inv-loop μ-loop
@@ -47,7 +58,7 @@ same-length c = appended-size (c .before .loop .inv .1)
 
 returns : tie.Need-returns Inv-loop μ-loop
 returns c =
-    let a = c .before .before .before .before .args in
+    let a = start (c .before) .args in
     let e : c .before .loop .s ≡ a .n = omega arith in
     appended-text (ap (λ (k : ℕ). markLine k (now (a .marks)) (a .start)) e) (c .before .loop .inv .1)
 

@@ -6,52 +6,61 @@ use Rattle.listing.proofs.Append.{appended-both, room-second, room-part
 use Rattle.listing.proofs.put_node.Statement.{statement}
 use Rattle.listing.proofs.put_node.Tie as tie
 
+-- the stops, each from the one after it: the start, and where each part was written
+abbrev start : tie.After-put-number-arg → tie.Start
+start c = c .before .before .before
+
+abbrev numbered : tie.After-put-arg → tie.After-put-number
+numbered c = c .before .before .before
+
+abbrev spaced : tie.After-put-marks-arg → tie.After-put
+spaced c = c .before .before .before
+
+abbrev marked : tie.After-put-arg2 → tie.After-put-marks
+marked c = c .before .before .before
+
+abbrev ended : tie.After-slice-known5 → tie.After-put2
+ended c = c .before .before
+
 put-number-requires : tie.Need-put-number-requires
 unfolding nodeLine
 put-number-requires c κs =
-    let start = c .before .before .before in
-    let a = start .args in
-    room-parts (decimal (a .t)) space (markLine (a .n) (now (a .marks)) _) newline (start .pre .1) .0
+    let a = start c .args in
+    room-parts (decimal (a .t)) space (markLine (a .n) (now (a .marks)) _) newline (start c .pre .1) .0
 
 put-requires : tie.Need-put-requires
 unfolding nodeLine
 put-requires c κs =
-    let numbered = c .before .before .before in
-    let start = numbered .before .before .before .before in
-    let a = start .args in
-    let rooms = room-parts (decimal (a .t)) space (markLine (a .n) (now (a .marks)) _) newline (start .pre .1) in
-    room-second space (numbered .put-number .ensures) (rooms .1)
+    let s = start (numbered c .before) in
+    let a = s .args in
+    let rooms = room-parts (decimal (a .t)) space (markLine (a .n) (now (a .marks)) _) newline (s .pre .1) in
+    room-second space (numbered c .put-number .ensures) (rooms .1)
 
 put-marks-requires : tie.Need-put-marks-requires
 unfolding nodeLine
 put-marks-requires c κs =
-    let spaced = c .before .before .before in
-    let numbered = spaced .before .before .before .before in
-    let start = numbered .before .before .before .before in
-    let a = start .args in
-    let rooms = room-parts (decimal (a .t)) space (markLine (a .n) (now (a .marks)) _) newline (start .pre .1) in
-    let done = appended-both (numbered .put-number .ensures) (spaced .put .ensures) in
-    (start .pre .0, room-second _ done (rooms .2))
+    let one = numbered (spaced c .before) in
+    let s = start (one .before) in
+    let a = s .args in
+    let rooms = room-parts (decimal (a .t)) space (markLine (a .n) (now (a .marks)) _) newline (s .pre .1) in
+    let done = appended-both (one .put-number .ensures) (spaced c .put .ensures) in
+    (s .pre .0, room-second _ done (rooms .2))
 
 put-requires-2 : tie.Need-put-requires-2
 unfolding nodeLine
 put-requires-2 c κs =
-    let marked = c .before .before .before in
-    let spaced = marked .before .before .before .before in
-    let numbered = spaced .before .before .before .before in
-    let start = numbered .before .before .before .before in
-    let done = appended-both (numbered .put-number .ensures) (spaced .put .ensures) in
-    room-second newline (appended-both done (marked .put-marks .ensures)) (start .pre .1)
+    let two = spaced (marked c .before) in
+    let one = numbered (two .before) in
+    let done = appended-both (one .put-number .ensures) (two .put .ensures) in
+    room-second newline (appended-both done (marked c .put-marks .ensures)) (start (one .before) .pre .1)
 
 returns : tie.Need-returns
 unfolding nodeLine
 returns c =
-    let ended = c .before .before in
-    let marked = ended .before .before .before .before in
-    let spaced = marked .before .before .before .before in
-    let numbered = spaced .before .before .before .before in
-    let done = appended-both (numbered .put-number .ensures) (spaced .put .ensures) in
-    appended-both (appended-both done (marked .put-marks .ensures)) (ended .put2 .ensures)
+    let three = marked (ended c .before) in
+    let two = spaced (three .before) in
+    let done = appended-both (numbered (two .before) .put-number .ensures) (two .put .ensures) in
+    appended-both (appended-both done (three .put-marks .ensures)) (ended c .put2 .ensures)
 
 pub put-node-spec : {M : Type 1} → statement M
 put-node-spec =

@@ -17,34 +17,40 @@ Inv-loop n k marks at out₀ end₀ t₀ out end t = (t ≤ k) × Appended at (j
 abbrev μ-loop : tie.MeasureT-loop
 μ-loop n k marks at out₀ end₀ t₀ out end t = k - t
 
+-- the start, the loop's stop, and where a line was written
+abbrev start : tie.At-loop Inv-loop μ-loop → tie.Start Inv-loop μ-loop
+start c = c .before .before .before
+
+abbrev loop : tie.After-put-node-arg Inv-loop μ-loop → tie.At-loop Inv-loop μ-loop
+loop c = c .before .before
+
+abbrev put : tie.After-slice-known2 Inv-loop μ-loop → tie.After-put-node Inv-loop μ-loop
+put c = c .before .before
+
 loop-holds : tie.Need-loop-holds Inv-loop μ-loop
-loop-holds c = (omega arith, joined-none (nodeLine (c .before .before .args .n) (now (c .before .before .args .marks))))
+loop-holds c = (omega arith, joined-none _)
 
 put-node-requires : tie.Need-put-node-requires Inv-loop μ-loop
 put-node-requires c κs =
-    let at-loop = c .before .before in
-    let start = at-loop .before .before .before in
-    let a = start .args in
-    let loop = at-loop .loop in
+    let s = start (loop c) in
+    let a = s .args in
+    let here = loop c .loop in
     let below = c .before .loop-test .taken in (
-      row-inside (loop .t) (a .k) (a .n) below (start .pre .0),
-      joined-room (nodeLine (a .n) (now (a .marks))) (loop .t) (a .k) (loop .inv .1) below (start .pre .1),
+      row-inside (here .t) (a .k) (a .n) below (s .pre .0),
+      joined-room (nodeLine (a .n) (now (a .marks))) (here .t) (a .k) (here .inv .1) below (s .pre .1),
     )
 
 loop-again : tie.Need-loop-again Inv-loop μ-loop
 loop-again c =
-    let put = c .before .before in
-    let at-loop = put .before .before .before in
-    let a = at-loop .before .before .before .args in
-    let f = nodeLine (a .n) (now (a .marks)) in
-    (omega arith, joined-more f (at-loop .loop .t) (at-loop .loop .inv .1) (put .put-node .ensures))
+    let at-loop = loop (put c .before) in
+    (omega arith, joined-more _ (at-loop .loop .t) (at-loop .loop .inv .1) (put c .put-node .ensures))
 
 same-length : tie.Need-same-length Inv-loop μ-loop
 same-length c = appended-size (c .before .loop .inv .1)
 
 returns : tie.Need-returns Inv-loop μ-loop
 returns c =
-    let a = c .before .before .before .before .args in
+    let a = start (c .before) .args in
     let e : c .before .loop .t ≡ a .k = omega arith in
     appended-text (ap (λ (i : ℕ). joined i (nodeLine (a .n) (now (a .marks)))) e) (c .before .loop .inv .1)
 

@@ -17,31 +17,39 @@ Inv-loop word at out₀ end₀ i₀ out end i = (i ≤ length word) × Appended 
 abbrev μ-loop : tie.MeasureT-loop
 μ-loop word at out₀ end₀ i₀ out end i = length word - i
 
+-- the start, the loop's stop, and where a byte was written
+abbrev start : tie.At-loop Inv-loop μ-loop → tie.Start Inv-loop μ-loop
+start c = c .before .before .before
+
+abbrev inside : tie.After-put-arg Inv-loop μ-loop → tie.In-loop Inv-loop μ-loop
+inside c = c .before .before
+
+abbrev put : tie.After-slice-known2 Inv-loop μ-loop → tie.After-put Inv-loop μ-loop
+put c = c .before .before
+
 loop-holds : tie.Need-loop-holds Inv-loop μ-loop
-loop-holds c = (omega arith, joined-none (byteAt (now (c .before .before .args .word))))
+loop-holds c = (omega arith, joined-none _)
 
 put-requires : tie.Need-put-requires Inv-loop μ-loop
 put-requires c κs =
-    let at-loop = c .before .before .before in
-    let start = at-loop .before .before .before in
-    let word = now (start .args .word) in
+    let at-loop = inside c .before in
+    let s = start at-loop in
+    let word = now (s .args .word) in
     let loop = at-loop .loop in
-    joined-room (byteAt word) (loop .i) (length word) (loop .inv .1) (c .before .before .loop-test .taken)
-    (room-text (sym (joined-bytes word)) (start .pre))
+    joined-room (byteAt word) (loop .i) (length word) (loop .inv .1) (inside c .loop-test .taken)
+    (room-text (sym (joined-bytes word)) (s .pre))
 
 loop-again : tie.Need-loop-again Inv-loop μ-loop
 loop-again c =
-    let put = c .before .before in
-    let at-loop = put .before .before .before .before in
-    let word = now (at-loop .before .before .before .args .word) in
-    (omega arith, joined-more (byteAt word) (at-loop .loop .i) (at-loop .loop .inv .1) (put .put .ensures))
+    let at-loop = inside (put c .before) .before in
+    (omega arith, joined-more _ (at-loop .loop .i) (at-loop .loop .inv .1) (put c .put .ensures))
 
 same-length : tie.Need-same-length Inv-loop μ-loop
 same-length c = appended-size (c .before .loop .inv .1)
 
 returns : tie.Need-returns Inv-loop μ-loop
 returns c =
-    let word = now (c .before .before .before .before .args .word) in
+    let word = now (start (c .before) .args .word) in
     let e : c .before .loop .i ≡ length word = omega arith in
     appended-text (ap (λ (k : ℕ). joined k (byteAt word)) e ∙ joined-bytes word) (c .before .loop .inv .1)
 

@@ -1,6 +1,6 @@
 -- Invariant: every entry before d names an overview state.
-use mathlib.Core.Path.{_≡_, _∙_}
-use mathlib.Core.Bool.{false}
+use mathlib.Core.Path.{_≡_, subst, _∙_}
+use mathlib.Core.Bool.{Bool, false}
 use Prim.Native.Nat.{ℕ, _≤_, _<_, _-_}
 use native.Mathlib.Omega.{arith}
 use lib.Dec.{leb}
@@ -18,6 +18,20 @@ Inv-loop map n k d₀ d = (d ≤ n) × ((v : ℕ) → v < d → leb k (entry map
 abbrev μ-loop : tie.MeasureT-loop
 μ-loop map n k d₀ d = n - d
 
+-- from where an entry was read
+module _ (c : tie.After-entry-at Inv-loop μ-loop) where
+  abbrev at-loop : tie.At-loop Inv-loop μ-loop
+  at-loop = c .before .before
+
+  abbrev start : tie.Start Inv-loop μ-loop
+  start = at-loop .before .before
+
+  -- the test of entry d, by what was read
+  told :
+      {b : Bool} → leb (start .args .k) (c .entry-at .result) ≡ b →
+      leb (start .args .k) (entry (now (start .args .map)) (at-loop .loop .d)) ≡ b
+  told = subst (λ x. leb (start .args .k) x ≡ _) (c .entry-at .ensures .0)
+
 loop-holds : tie.Need-loop-holds Inv-loop μ-loop
 loop-holds c = (omega arith, below-none _)
 
@@ -25,25 +39,19 @@ returns : tie.Need-returns Inv-loop μ-loop
 returns c =
     let tested = c .before in
     let read = tested .before in
-    let at-loop = read .before .before in
-    let a = at-loop .before .before .args in
-    let loop = at-loop .loop in
-    let is = read .entry-at .ensures .0 in
-    let e = le-leb (a .k) (entry (now (a .map)) (loop .d)) (omega (arith, tested .if1 .taken, is)) in
-    c .refused .ensures ∙ search-found 21 (record { inside = omega arith; offends = e; under = loop .inv .1 })
+    let e = told read (le-leb _ _ (tested .if1 .taken)) in
+    c .refused .ensures ∙
+    search-found 21 (record { inside = omega arith; offends = e; under = at-loop read .loop .inv .1 })
 
 loop-again : tie.Need-loop-again Inv-loop μ-loop
 loop-again c =
-    let read = c .before in
-    let at-loop = read .before .before in
-    let a = at-loop .before .before .args in
-    let loop = at-loop .loop in
-    let is = read .entry-at .ensures .0 in
-    let e = lt-leb (a .k) (entry (now (a .map)) (loop .d)) (omega (arith, c .if1 .left, is)) in
-    (omega arith, below-more _ (loop .d) (loop .inv .1) e)
+    let loop = at-loop (c .before) .loop in
+    (omega arith, below-more _ (loop .d) (loop .inv .1) (told (c .before) (lt-leb _ _ (c .if1 .left))))
 
 returns-2 : tie.Need-returns-2 Inv-loop μ-loop
-returns-2 c = c .accepted .ensures ∙ search-ended 21 (λ v l. c .before .before .loop .inv .1 v (omega arith))
+returns-2 c =
+    let left = c .before in
+    c .accepted .ensures ∙ search-ended 21 (λ v l. left .before .loop .inv .1 v (omega arith))
 
 pub entry-refusal-spec : {M : Type 1} → statement M
 entry-refusal-spec =

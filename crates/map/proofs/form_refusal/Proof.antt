@@ -9,38 +9,51 @@ use Rattle.map.proofs.Format.{form-refuses, form-passes, unheaded, form
 use Rattle.map.proofs.form_refusal.Statement.{statement}
 use Rattle.map.proofs.form_refusal.Tie as tie
 
+-- the start, the head's test, and where the count was read
+abbrev start : tie.After-head-refusal → tie.Start
+start c = c .before .before
+
+abbrev head : tie.After-struct-known → tie.After-head-refusal
+head c = c .before
+
+abbrev read : tie.Else2 → tie.After-be16
+read c = c .before
+
 returns : tie.Need-returns
 returns c =
-    let tested = c .before .before .before in
-    let start = tested .before .before in
-    let wrong = unheaded _ (start .args .n) (tested .head-refusal .ensures) (c .before .if1 .taken) in
+    let met = c .before in
+    let tested = head (met .before) in
+    let wrong = unheaded _ (start tested .args .n) (tested .head-refusal .ensures) (met .if1 .taken) in
     form-refuses _ _ wrong (c .refused .ensures)
 
 be16-requires : tie.Need-be16-requires
 be16-requires c κs =
-    let tested = c .before .before in
-    let start = tested .before .before in
-    omega (arith, head-passed 20 7 (now (start .args .map)) tt (tested .head-refusal .ensures) (c .if1 .left))
+    let tested = head (c .before) in
+    let p = now (start tested .args .map) in
+    omega (arith, head-passed 20 7 p tt (tested .head-refusal .ensures) (c .if1 .left))
 
 returns-2 : tie.Need-returns-2
 returns-2 c =
-    let e = ap (λ x. 7 + 2 * x) (sym (c .before .before .be16 .ensures .0)) in
-    form-refuses _ _ (λ f. c .before .if2 .taken (f .whole ∙ e)) (c .refused2 .ensures)
+    let met = c .before in
+    let e = ap (λ x. 7 + 2 * x) (sym (met .before .be16 .ensures .0)) in
+    form-refuses _ _ (λ f. met .if2 .taken (f .whole ∙ e)) (c .refused2 .ensures)
 
 returns-3 : tie.Need-returns-3
 returns-3 c =
-    let count = c .before .before .before .be16 .ensures .0 in
-    form-refuses _ _ (λ f. c .before .if3 .taken (count ∙ f .count)) (c .refused3 .ensures)
+    let met = c .before in
+    let count = read (met .before) .be16 .ensures .0 in
+    form-refuses _ _ (λ f. met .if3 .taken (count ∙ f .count)) (c .refused3 .ensures)
 
 returns-4 : tie.Need-returns-4
 returns-4 c =
-    let read = c .before .before .before in
-    let headed = read .before in
-    let tested = headed .before .before in
-    let head = tested .head-refusal .ensures in
-    let count = read .be16 .ensures .0 in
-    let n = tested .before .before .args .n in
-    let form = formed _ n head (headed .if1 .left) count (c .before .before .if2 .left) (c .before .if3 .left) in
+    let counted = c .before in
+    let sized = counted .before in
+    let headed = read sized .before in
+    let tested = head (headed .before) in
+    let n = start tested .args .n in
+    let count = read sized .be16 .ensures .0 in
+    let form =
+    formed _ n (tested .head-refusal .ensures) (headed .if1 .left) count (sized .if2 .left) (counted .if3 .left) in
     form-passes _ n form (c .accepted .ensures)
 
 pub form-refusal-spec : {M : Type 1} → statement M
