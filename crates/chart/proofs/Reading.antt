@@ -1,5 +1,5 @@
 -- What a chart that passes checks 1 to 9 leaves for reading its arrows.
-use mathlib.Core.Path.{_≡_, sym, subst₂}
+use mathlib.Core.Path.{_≡_, refl, sym, subst₂}
 use mathlib.Core.List.{List}
 use Prim.Native.Nat.{ℕ, _+_, _*_, _≤_, _<_}
 use native.Mathlib.Omega.{arith}
@@ -9,7 +9,7 @@ use borrow.Author.Tests.{eqb-false}
 use Rattle.base.proofs.Truth.{or-false}
 use Rattle.tctl.specs.Chart.{states}
 use Rattle.tctl.proofs.Drawn.{Drawn}
-use Rattle.chart.specs.Bytes.{arrowWords, chartOf}
+use Rattle.chart.specs.Bytes.{arrowCount, arrowWords, chartOf}
 use Rattle.chart.specs.Shape.{Small, Slot, Shape, Passed}
 use Rattle.chart.proofs.WellFormed.{WellFormed, well-formed, chart-named, chart-slots}
 use Rattle.chart.proofs.Chart.{states-of}
@@ -20,6 +20,10 @@ module _ {s : List ℕ} {n m : ℕ} (p : Passed s n m) where
 
   pub shaped : Shape s n m
   shaped = subst₂ (Shape s) (sym (p .states)) (sym (p .arrows)) (ok .shape)
+
+  -- the arrows are as many as the chart says
+  pub counted : Passed s n (arrowCount s)
+  counted = record { states = p .states; arrows = refl; unrefused = p .unrefused }
 
   pub arrow-ends : (i : ℕ) → i < m → (arrowWords s i .start < n) × (arrowWords s i .end < n)
   arrow-ends i l =

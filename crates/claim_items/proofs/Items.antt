@@ -11,6 +11,7 @@ use lib.Dec.{eqb}
 use borrow.Author.Tests.{eqb-true}
 use Rattle.base.proofs.Truth.{and-iff, one-true}
 use Rattle.base.specs.Tabulate.{tabulate}
+use Rattle.base.specs.Sum.{sum}
 use Rattle.tctl.specs.Chart.{states}
 use Rattle.base.proofs.Tabulate.{mem-tabulate}
 use Rattle.base.specs.Every.{every}
@@ -49,7 +50,7 @@ passes it =
 all-pass : every passes items ≡ true
 unfolding
     passes items every tabulate chartOf arrowWords acceptedTable chartTable loopRow leads leftBy lowest first
-    formOf nodeWords wrongKind wrongA malformed notLower usesIn uses ruleTable formulaBy
+    formOf nodeWords wrongKind wrongA malformed notLower usesIn uses sum ruleTable formulaBy
     round rounds lower raise least greatest someRow waits plainRow sureRow allRow answers
 all-pass = refl
 

@@ -2,6 +2,7 @@
 use mathlib.Core.Path.{_≡_, refl}
 use mathlib.Core.Bool.{true}
 use Rattle.base.specs.Tabulate.{tabulate}
+use Rattle.base.specs.Sum.{sum}
 use Rattle.base.specs.Every.{every}
 use Rattle.model.specs.ZeroLoop.{leads}
 use Rattle.outcome.specs.Refusal.{lowest, first}
@@ -22,7 +23,7 @@ unfolding every charts acceptedTable chartTable loopRow arrowWords chartOf tabul
 charts-refused = refl
 
 pub rules-refused : every (asListed ruleRefusal) rules ≡ true
-unfolding every rules ruleTable nodeWords formOf wrongKind wrongA malformed notLower usesIn uses lowest first
+unfolding every rules ruleTable nodeWords formOf wrongKind wrongA malformed notLower usesIn uses sum lowest first
 rules-refused = refl
 
 pub maps-refused : every mapAsListed maps ≡ true
@@ -34,5 +35,5 @@ maps-refused = refl
 pub checks-refused : every checkAsListed checks ≡ true
 unfolding
     every checks checkTable chartTable loopRow arrowWords chartOf tabulate leads leftBy lowest first ruleTable nodeWords
-    formOf wrongKind wrongA malformed notLower usesIn uses
+    formOf wrongKind wrongA malformed notLower usesIn uses sum
 checks-refused = refl

@@ -7,7 +7,7 @@ ghost use Prim.Native.Nat.{ℕ, _+_, _<_};
 ghost use lib.ListN.{length};
 ghost use lib.Dec.{eqb};
 ghost use Rattle.words.specs.Word.{word};
-ghost use Rattle.chart.specs.Bytes.{arrowWords, chartOf};
+ghost use Rattle.chart.specs.Bytes.{arrowCount, arrowWords, chartOf};
 ghost use Rattle.chart.specs.Shape.{Small, Inside, Passed};
 ghost use Rattle.hints.specs.Circle.{Circles};
 ghost use Rattle.hints.specs.Read.{Low, Joined};
@@ -104,8 +104,8 @@ fn low_arrow(chart: &[u8], n: usize, i: usize) -> ArrowWords
 }
 
 // Arrow i of a chart that passed.
-pub fn arrow(chart: &[u8], n: usize, m: usize, i: usize) -> ArrowWords
-    requires { ⌜ Passed (now chart) n m × (i < m) ⌝ }
+pub fn arrow(chart: &[u8], n: usize, i: usize) -> ArrowWords
+    requires { ⌜ Passed (now chart) n (arrowCount (now chart)) × (i < arrowCount (now chart)) ⌝ }
     ensures { λ r. ⌜ (r ≡ arrowWords (now (chart .entry)) i) × Joined n r ⌝ }
 {
     low_arrow(chart, n, i)
@@ -117,7 +117,7 @@ pub fn start(chart: &[u8], n: usize, m: usize, numbers: &mut [u32])
 {
     let mut i = 0;
     while i < m {
-        let a = arrow(chart, n, m, i);
+        let a = arrow(chart, n, i);
         let s = a.start;
         numbers[s] = hinted(0, 0, i);
         i += 1;
@@ -149,7 +149,7 @@ pub fn circles(chart: &[u8], n: usize, m: usize, most: usize, numbers: &[u32], r
         if m <= i {
             return false;
         }
-        let a = arrow(chart, n, m, i);
+        let a = arrow(chart, n, i);
         if a.start != at {
             return false;
         }

@@ -7,7 +7,7 @@ ghost use lib.ListN.{length};
 ghost use Rattle.outcome.specs.Refusal.{refuse, found, lowest, first};
 ghost use Rattle.model.specs.Engine.{num, Numbers};
 ghost use Rattle.model.specs.ZeroLoop.{onZeroLoop};
-ghost use Rattle.chart.specs.Bytes.{chartOf};
+ghost use Rattle.chart.specs.Bytes.{arrowCount, chartOf};
 ghost use Rattle.loops.specs.Refusal.{loopRow, acceptedRefusal};
 ghost use Rattle.loops.specs.Climb.{ownBit, lift, limit};
 ghost use Rattle.chart.specs.Shape.{Passed};
@@ -77,15 +77,9 @@ fn raise(search: Search, numbers: &mut [u32], s: usize, e: usize) -> u32
 }
 
 // Arrow i, if its fewest is 0.
-fn climb_arrow(
-    search: Search,
-    chart: &[u8],
-    n: usize,
-    m: usize,
-    i: usize,
-    numbers: &mut [u32],
-) -> u32
-    requires { ⌜ Passed (now chart) n m × (i < m) × Numbers n (limit search) (now numbers) ⌝ }
+fn climb_arrow(search: Search, chart: &[u8], n: usize, i: usize, numbers: &mut [u32]) -> u32
+    requires { ⌜ Passed (now chart) n (arrowCount (now chart)) × (i < arrowCount (now chart)) ⌝ }
+    requires { ⌜ Numbers n (limit search) (now numbers) ⌝ }
     ensures { λ r. ⌜ Climbed (now (chart .entry)) search i (i + 1) r (now (numbers .entry)) (now (numbers .exit)) ⌝ }
 {
     let a = chart::arrow_at(chart, n, i);
@@ -103,7 +97,7 @@ fn climb_round(search: Search, chart: &[u8], n: usize, m: usize, numbers: &mut [
     let mut raised = 0;
     let mut i = 0;
     while i < m {
-        raised += climb_arrow(search, chart, n, m, i, numbers);
+        raised += climb_arrow(search, chart, n, i, numbers);
         i += 1;
     }
     raised

@@ -31,10 +31,10 @@ fn size_refusal(rule: &[u8]) -> Outcome
 fn wrong_a(form: u8, a: usize) -> bool
     ensures { λ r. ⌜ r ≡ wrongA form a ⌝ }
 {
-    if form == 0 {
+    if form == rule::form::NO_FIELD {
         return a != 0;
     }
-    form == 1 && 15 < a
+    form == rule::form::LABELLED && 15 < a
 }
 
 // The fault of row 14.
@@ -42,10 +42,10 @@ fn is_malformed(w: NodeWords) -> bool
     ensures { λ r. ⌜ r ≡ malformed w ⌝ }
 {
     let form = rule::form::form(w.operation);
-    if form == 4 {
+    if form == rule::form::BOUNDED {
         return w.kind < rule::AT_MOST || rule::AT_LEAST < w.kind;
     }
-    if 4 < form {
+    if rule::form::BOUNDED < form {
         return true;
     }
     if w.kind != 0 {
@@ -54,7 +54,7 @@ fn is_malformed(w: NodeWords) -> bool
     if w.c != 0 {
         return true;
     }
-    if 2 < form {
+    if rule::form::ONE_OPERAND < form {
         return false;
     }
     if w.b != 0 {
@@ -68,13 +68,13 @@ fn is_not_lower(w: NodeWords, t: usize) -> bool
     ensures { λ r. ⌜ r ≡ notLower t w ⌝ }
 {
     let form = rule::form::form(w.operation);
-    if form < 2 {
+    if form < rule::form::ONE_OPERAND {
         return false;
     }
     if t <= w.a {
         return true;
     }
-    if form < 3 {
+    if form < rule::form::TWO_OPERANDS {
         return false;
     }
     t <= w.b

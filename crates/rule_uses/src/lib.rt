@@ -43,11 +43,11 @@ fn with_operands(used: Used, w: NodeWords) -> Used
     ensures { λ r. ⌜ ((count : ℕ → ℕ) → Counted used count → Counted r (λ u. count u + usesIn u w)) ⌝ }
 {
     let form = rule::form::form(w.operation);
-    if form < 2 {
+    if form < rule::form::ONE_OPERAND {
         return used;
     }
     let left = with_use(used, w.a);
-    if form < 3 {
+    if form < rule::form::TWO_OPERANDS {
         return left;
     }
     with_use(left, w.b)

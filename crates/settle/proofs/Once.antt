@@ -82,9 +82,8 @@ module _ {s : List ℕ} (acc : AcceptedRule s) where
       omega (arith, named-at u v, x, y)
 
   uses-sum : (u j : ℕ) → uses s j u ≡ sum (named u) j
-  unfolding uses sum
-  uses-sum u zero = refl
-  uses-sum u (suc j) = ap (λ x. x + named u j) (uses-sum u j)
+  unfolding uses
+  uses-sum u j = refl
 
   -- Downwards from the last node: the nodes that name u are above it, so each is settled once, and they name it once.
   once-from : (d u : ℕ) → u < k → k ≤ u + d → timesSettled s (k - 1) u ≡ 1

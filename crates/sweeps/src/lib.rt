@@ -1,5 +1,6 @@
 // Sweeps: all arrows are tried, from the last to the first.
 ghost use Prim.Native.Nat.{_≤_};
+ghost use Rattle.chart.specs.Bytes.{arrowCount};
 ghost use Rattle.visits.specs.Moves.{Given};
 ghost use Rattle.sweeps.specs.Sweep.{Quiet, Sweeps};
 use ways::Way;
@@ -10,18 +11,17 @@ fn last_raising(
     way: Way,
     chart: &[u8],
     n: usize,
-    m: usize,
     floor: usize,
     k: usize,
     numbers: &[u32],
 ) -> usize
-    requires { ⌜ Given way (now chart) n m (now numbers) × (floor ≤ k) × (k ≤ m) ⌝ }
+    requires { ⌜ Given way (now chart) n (arrowCount (now chart)) (now numbers) × (floor ≤ k) × (k ≤ arrowCount (now chart)) ⌝ }
     ensures { λ r. ⌜ Quiet way (now (chart .entry)) floor r k (now (numbers .entry)) ⌝ }
 {
     let mut i = k;
     while floor < i {
         i -= 1;
-        if visits::raises(way, chart, n, m, i, numbers) {
+        if visits::raises(way, chart, n, i, numbers) {
             return i + 1;
         }
     }
@@ -40,7 +40,7 @@ pub fn sweep(way: Way, floor: usize, chart: &[u8], n: usize, m: usize, numbers: 
     requires { ⌜ Given way (now chart) n m (now numbers) × (floor ≤ m) ⌝ }
     ensures { λ r. ⌜ Sweeps way (now (chart .entry)) m floor r (now (numbers .entry)) (now (numbers .exit)) ⌝ }
 {
-    let first = last_raising(way, chart, n, m, floor, m, numbers);
+    let first = last_raising(way, chart, n, floor, m, numbers);
     if first == floor {
         return Tally {
             any: false,
@@ -55,7 +55,7 @@ pub fn sweep(way: Way, floor: usize, chart: &[u8], n: usize, m: usize, numbers: 
         let x = visits::renew(way, chart, n, m, i, numbers);
         any = any | x;
         last = i;
-        i = last_raising(way, chart, n, m, 0, i, numbers);
+        i = last_raising(way, chart, n, 0, i, numbers);
     }
     Tally { any, last }
 }

@@ -22,7 +22,7 @@ use Rattle.visits.proofs.Tested.{tested-open, tested-held}
 use Rattle.visits.proofs.Went.{went-set}
 
 module _
-    {way : Way} (fits : Fits way) (chart ns : List ℕ) (m i : ℕ) {w : ArrowWords} (is : w ≡ arrowWords chart i)
+    {way : Way} (fits : Fits way) (chart ns : List ℕ) (i : ℕ) {w : ArrowWords} (is : w ≡ arrowWords chart i)
     (here : w .start < length ns) {y v : ℕ} (end : y ≡ valueOf (num ns (w .end))) (offers : Offers way w y v)
     {go : ℕ → Bool} (r : Ready way go ns) where
   abbrev vs : List ℕ
@@ -47,10 +47,10 @@ module _
 
   -- what is set is what the offer reaches, with its side
   pub visit-moves :
-      testedOf (num ns (w .start)) < v → (x : ℕ) {t : ℕ} → Reached way v t → testedOf x ≡ t → i < m →
+      {m : ℕ} → testedOf (num ns (w .start)) < v → (x : ℕ) {t : ℕ} → Reached way v t → testedOf x ≡ t → i < m →
       Went way chart m go true ns (set ns (w .start) x) ×
       Held way go (arrowAt chart i) vs (values (set ns (w .start) x))
-  visit-moves h x reach tested l = (
+  visit-moves {m} h x reach tested l = (
     went-set r s x u here value side high up (above .1) moved,
     subst (λ w. Held way go (arrowOf w) vs (values (set ns s x))) is
         (record { is = λ f. omega (arith, comes, ap (λ us. num us s) (values-set ns s x value), getD-set-same vs s u 0 inside, above .0) }),

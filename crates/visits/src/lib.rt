@@ -3,29 +3,31 @@
 ghost use mathlib.Core.Path.{_≡_};
 ghost use mathlib.Core.Bool.{Bool, false};
 ghost use Prim.Native.Nat.{ℕ, _<_};
+ghost use Rattle.chart.specs.Bytes.{arrowCount};
 ghost use Rattle.hints.specs.Values.{values};
 ghost use Rattle.visits.specs.Moves.{Given, Ready, arrowAt, Held, Goes, Visits};
 use ways::Climb;
 use ways::Way;
 
 // Arrow i would raise the number of its start.
-pub fn raises(way: Way, chart: &[u8], n: usize, m: usize, i: usize, numbers: &[u32]) -> bool
-    requires { ⌜ Given way (now chart) n m (now numbers) × (i < m) ⌝ }
+pub fn raises(way: Way, chart: &[u8], n: usize, i: usize, numbers: &[u32]) -> bool
+    requires { ⌜ Given way (now chart) n (arrowCount (now chart)) (now numbers) × (i < arrowCount (now chart)) ⌝ }
     ensures { λ r. ⌜ (r ≡ false → (go : ℕ → Bool) → Ready way go (now (numbers .entry)) →
         Held way go (arrowAt (now (chart .entry)) i) (values (now (numbers .entry))) (values (now (numbers .entry)))) ⌝ }
 {
-    let a = hints::arrow(chart, n, m, i);
+    let a = hints::arrow(chart, n, i);
     let s = a.start;
     let e = a.end;
     ways::beats(way, a, hints::value(numbers[e]), hints::tested(numbers[s]))
 }
 
 // Arrow i raises the number of its start, and is then its hint.
-fn raise(way: Way, chart: &[u8], n: usize, m: usize, i: usize, numbers: &mut [u32]) -> bool
-    requires { ⌜ Given way (now chart) n m (now numbers) × (i < m) ⌝ }
-    ensures { λ r. ⌜ Visits way (now (chart .entry)) m i r (now (numbers .entry)) (now (numbers .exit)) ⌝ }
+fn raise(way: Way, chart: &[u8], n: usize, i: usize, numbers: &mut [u32]) -> bool
+    requires { ⌜ Given way (now chart) n (arrowCount (now chart)) (now numbers) × (i < arrowCount (now chart)) ⌝ }
+    ensures { λ r. ⌜ Visits way (now (chart .entry)) (arrowCount (now (chart .entry))) i r
+        (now (numbers .entry)) (now (numbers .exit)) ⌝ }
 {
-    let a = hints::arrow(chart, n, m, i);
+    let a = hints::arrow(chart, n, i);
     let s = a.start;
     let e = a.end;
     let v = ways::offered(way, a, hints::value(numbers[e]));
@@ -46,7 +48,7 @@ pub fn follow(way: Way, chart: &[u8], n: usize, m: usize, s: usize, numbers: &mu
     if m <= i {
         return false;
     }
-    raise(way, chart, n, m, i, numbers)
+    raise(way, chart, n, i, numbers)
 }
 
 // Arrow i is tried, after the own hint of its start, which stays unless the arrow offered more before. A state whose arrow
@@ -55,7 +57,7 @@ pub fn renew(way: Way, chart: &[u8], n: usize, m: usize, i: usize, numbers: &mut
     requires { ⌜ Given way (now chart) n m (now numbers) × (i < m) ⌝ }
     ensures { λ r. ⌜ Visits way (now (chart .entry)) m i r (now (numbers .entry)) (now (numbers .exit)) ⌝ }
 {
-    let a = hints::arrow(chart, n, m, i);
+    let a = hints::arrow(chart, n, i);
     let s = a.start;
     let e = a.end;
     let v = ways::offered(way, a, hints::value(numbers[e]));
@@ -63,7 +65,7 @@ pub fn renew(way: Way, chart: &[u8], n: usize, m: usize, i: usize, numbers: &mut
     if v <= hints::tested(numbers[s]) {
         return own;
     }
-    let new = raise(way, chart, n, m, i, numbers);
+    let new = raise(way, chart, n, i, numbers);
     own | new
 }
 

@@ -5,13 +5,17 @@ use Rattle.chart.proofs.Arrow.{arrow-read}
 use Rattle.chart.proofs.arrow_at.Statement.{statement}
 use Rattle.chart.proofs.arrow_at.Tie as tie
 
+abbrev start : tie.After-be16 → tie.Start
+start c = c .before .before
+
 returns : tie.Need-returns
 returns c =
-    let w = c .before .before .before .before .before in (
-      arrow-read (now (w .args .chart)) (w .args .i) (w .pre .states) (c .before .before .before .be16 .ensures .0)
-          (c .before .before .be162 .ensures .0)
-          (c .before .be163 .ensures .0)
-          (c .be164 .ensures .0),
+    let third = c .before in
+    let second = third .before in
+    let first = second .before in
+    let w = start first in (
+      arrow-read (now (w .args .chart)) (w .args .i) (w .pre .states) (first .be16 .ensures .0)
+          (second .be162 .ensures .0) (third .be163 .ensures .0) (c .be164 .ensures .0),
       record { start = search needs; end = search needs; fewest = search needs; most = search needs },
     )
 

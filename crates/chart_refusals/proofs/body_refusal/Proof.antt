@@ -7,26 +7,34 @@ use Rattle.chart.specs.Rows.{arrowRows, stateRow}
 use Rattle.chart_refusals.proofs.body_refusal.Statement.{statement}
 use Rattle.chart_refusals.proofs.body_refusal.Tie as tie
 
+-- the stops: the call, and the pass over the arrows
+abbrev start : tie.After-seen-arrows → tie.Start
+start c = c .before .before
+
+abbrev pass : tie.After-struct-known → tie.After-seen-arrows
+pass c = c .before .before
+
 returns : tie.Need-returns
 returns c =
-    let pass = c .before .before .before in
-    let a = pass .before .before .args in
+    let seen = pass (c .before) in
+    let a = start seen .args in
     let s = now (a .chart) in
-    part-refuses (arrowRows s (a .n) (a .m)) (stateRow s (a .n) (a .m) ∷ []) (pass .seen-arrows .ensures .0)
+    part-refuses (arrowRows s (a .n) (a .m)) (stateRow s (a .n) (a .m) ∷ []) (seen .seen-arrows .ensures .0)
     (c .if1 .taken)
 
 state-refusal-requires : tie.Need-state-refusal-requires
-state-refusal-requires c κs = c .before .before .before .before .before .before .pre .few-states
+state-refusal-requires c κs = let test = c .before in start (pass (test .before)) .pre .few-states
 
 returns-2 : tie.Need-returns-2
 returns-2 c =
-    let test = c .before .before in
-    let pass = test .before .before .before in
-    let a = pass .before .before .args in
+    let left = c .before in
+    let test = left .before in
+    let seen = pass (test .before) in
+    let a = start seen .args in
     let s = now (a .chart) in
-    let seen = pass .seen-arrows .ensures in
-    part-passes (arrowRows s (a .n) (a .m)) (stateRow s (a .n) (a .m) ∷ []) tt (seen .0) (test .if1 .left)
-    (c .state-refusal .ensures s (a .m) (seen .1 (test .if1 .left)))
+    let told = seen .seen-arrows .ensures in
+    part-passes (arrowRows s (a .n) (a .m)) (stateRow s (a .n) (a .m) ∷ []) tt (told .0) (test .if1 .left)
+    (c .state-refusal .ensures s (a .m) (told .1 (test .if1 .left)))
 
 pub body-refusal-spec : {M : Type 1} → statement M
 body-refusal-spec =

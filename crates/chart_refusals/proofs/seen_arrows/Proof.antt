@@ -35,7 +35,7 @@ Inv-loop chart n m slots₀ left₀ i₀ slots left i =
 abbrev μ-loop : tie.MeasureT-loop
 μ-loop chart n m slots₀ left₀ i₀ slots left i = m - i
 
--- the stops: the call, the loop's head, an arrow read, and one that passes row 7
+-- the stops: the call, the loop's head, an arrow read, and row 8 decided of it
 abbrev start : tie.At-loop Inv-loop μ-loop → tie.Start Inv-loop μ-loop
 start c = c .before .before .before
 
@@ -45,8 +45,8 @@ head c = c .before .before
 abbrev read : tie.After-names-no-state Inv-loop μ-loop → tie.After-arrow-at Inv-loop μ-loop
 read c = c .before
 
-abbrev passed : tie.After-with Inv-loop μ-loop → tie.Else1 Inv-loop μ-loop
-passed c = c .before .before .before .before
+abbrev slotted : tie.After-with Inv-loop μ-loop → tie.After-slot-refusal Inv-loop μ-loop
+slotted c = c .before .before .before
 
 -- what the test of row 7 says of arrow i
 told :
@@ -97,14 +97,15 @@ slot-refusal-requires : tie.Need-slot-refusal-requires Inv-loop μ-loop
 slot-refusal-requires c κs = omega (arith, start (head (read (c .before))) .pre .few-arrows)
 
 array-read-with : tie.Need-array-read-with Inv-loop μ-loop
-array-read-with c = omega (arith, low (c .before .before))
+array-read-with c = let slot = c .before in omega (arith, low (slot .before))
 
 array-write-left : tie.Need-array-write-left Inv-loop μ-loop
-array-write-left c = omega (arith, low (passed c))
+array-write-left c = omega (arith, low (slotted c .before))
 
 loop-again : tie.Need-loop-again Inv-loop μ-loop
 loop-again c =
-    let test = passed c in
+    let slot = slotted c in
+    let test = slot .before in
     let arrow = read (test .before) .arrow-at in
     let at = head (read (test .before)) in
     let s = now (start at .args .chart) in
@@ -112,7 +113,7 @@ loop-again c =
     let e : arrowWords s i .start ≡ arrow .result .start = ap (λ (w : ArrowWords). w .start) (sym (arrow .ensures .0)) in (
       omega arith,
       below-more _ i (at .loop .inv .1) (told (test .before) (test .if1 .left)),
-      rw (add-one i) (c .before .before .before .slot-refusal .ensures s (arrow .ensures .0) (at .loop .inv .2)),
+      rw (add-one i) (slot .slot-refusal .ensures s (arrow .ensures .0) (at .loop .inv .2)),
       rw (add-one i) (left-put s e (low test) (c .with .ensures) (at .loop .inv .3)),
     )
 

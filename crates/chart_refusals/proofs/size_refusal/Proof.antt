@@ -10,14 +10,34 @@ use Rattle.chart.specs.Refusals.{chartTable}
 use Rattle.chart_refusals.proofs.size_refusal.Statement.{statement}
 use Rattle.chart_refusals.proofs.size_refusal.Tie as tie
 
+-- from each test back to the call
+abbrev start1 : tie.After-state-count → tie.Start
+start1 c = c .before .before
+
+abbrev start2 : tie.Else1 → tie.Start
+start2 c = start1 (c .before)
+
+abbrev start3 : tie.After-arrow-count → tie.Start
+start3 c = start2 (c .before .before)
+
+abbrev start4 : tie.Else3 → tie.Start
+start4 c = start3 (c .before)
+
+abbrev start5 : tie.Else4 → tie.Start
+start5 c = start4 (c .before)
+
 returns : tie.Need-returns
 unfolding first chartTable
-returns c = let s = now (c .before .before .before .before .args .chart) in
+returns c =
+    let test = c .before in
+    let s = now (start1 (test .before) .args .chart) in
     simp (lt-ltb (stateCount s) 1 (omega arith)) (c .refused .ensures)
 
 returns-2 : tie.Need-returns-2
 unfolding first chartTable
-returns-2 c = let s = now (c .before .before .before .before .before .args .chart) in
+returns-2 c =
+    let test = c .before in
+    let s = now (start2 (test .before) .args .chart) in
     simp (
       le-ltb (stateCount s) 1 (omega arith),
       lt-ltb 256 (stateCount s) (omega arith),
@@ -25,7 +45,9 @@ returns-2 c = let s = now (c .before .before .before .before .before .args .char
 
 returns-3 : tie.Need-returns-3
 unfolding first chartTable
-returns-3 c = let s = now (c .before .before .before .before .before .before .before .args .chart) in
+returns-3 c =
+    let test = c .before in
+    let s = now (start3 (test .before) .args .chart) in
     simp (
       le-ltb (stateCount s) 1 (omega arith),
       le-ltb 256 (stateCount s) (omega arith),
@@ -34,7 +56,9 @@ returns-3 c = let s = now (c .before .before .before .before .before .before .be
 
 returns-4 : tie.Need-returns-4
 unfolding first chartTable
-returns-4 c = let s = now (c .before .before .before .before .before .before .before .before .args .chart) in
+returns-4 c =
+    let test = c .before in
+    let s = now (start4 (test .before) .args .chart) in
     simp (
       le-ltb (stateCount s) 1 (omega arith),
       le-ltb 256 (stateCount s) (omega arith),
@@ -44,7 +68,9 @@ returns-4 c = let s = now (c .before .before .before .before .before .before .be
 
 returns-5 : tie.Need-returns-5
 unfolding first chartTable
-returns-5 c = let s = now (c .before .before .before .before .before .before .before .before .before .args .chart) in
+returns-5 c =
+    let test = c .before in
+    let s = now (start5 (test .before) .args .chart) in
     simp (
       le-ltb (stateCount s) 1 (omega arith),
       le-ltb 256 (stateCount s) (omega arith),
@@ -55,7 +81,9 @@ returns-5 c = let s = now (c .before .before .before .before .before .before .be
 
 returns-6 : tie.Need-returns-6
 unfolding first chartTable
-returns-6 c = let s = now (c .before .before .before .before .before .before .before .before .before .args .chart) in
+returns-6 c =
+    let test = c .before in
+    let s = now (start5 (test .before) .args .chart) in
     simp (
       le-ltb (stateCount s) 1 (omega arith),
       le-ltb 256 (stateCount s) (omega arith),

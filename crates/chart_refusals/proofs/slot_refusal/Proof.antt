@@ -15,6 +15,13 @@ use Rattle.chart.specs.Rows.{slotRow}
 use Rattle.chart_refusals.proofs.slot_refusal.Statement.{statement}
 use Rattle.chart_refusals.proofs.slot_refusal.Tie as tie
 
+-- the stops: the call, and an empty slot, from where no arrow before had one
+abbrev start : tie.After-empty-slot → tie.Start
+start c = c .before
+
+abbrev empty : tie.Else2 → tie.Else1
+empty c = c .before .before
+
 -- row 8 goes by the slots
 abbrev slots : List ℕ → ℕ → Bool
 slots s i = emptySlot (arrowWords s i)
@@ -29,13 +36,13 @@ in-order s i e = rw e (ap (λ o. first (refuse 8 o ∷ [])) (or-kept (lowest (sl
 
 -- what the test says of arrow i
 slot :
-    (c : tie.After-empty-slot) (s : List ℕ) {b : Bool} → c .before .args .a ≡ arrowWords s (c .before .args .i) →
-    c .empty-slot .result ≡ b → slots s (c .before .args .i) ≡ b
+    (c : tie.After-empty-slot) (s : List ℕ) {b : Bool} → start c .args .a ≡ arrowWords s (start c .args .i) →
+    c .empty-slot .result ≡ b → slots s (start c .args .i) ≡ b
 slot c s e f = ap emptySlot (sym e) ∙ sym (c .empty-slot .ensures) ∙ f
 
 returns : tie.Need-returns
 returns c s e f =
-    let i = c .before .before .args .i in
+    let i = start (c .before) .args .i in
     f ∙ in-order s i (slot (c .before) s e (not-true _ (c .if1 .taken)))
 
 returns-2 : tie.Need-returns-2
@@ -43,14 +50,14 @@ returns-2 c s e f = search-wider 8 (slots s) f (omega arith) (c .if2 .taken)
 
 returns-3 : tie.Need-returns-3
 returns-3 c s e f =
-    let else2 = c .before in
-    let else1 = else2 .before .before in
+    let test = c .before in
+    let found = empty test in
     c .refused .ensures ∙
     search-found 8 (
     record {
       inside = omega arith;
-      offends = slot (else1 .before) s e (not-false _ (else1 .if1 .left));
-      under = search-passed 8 (slots s) f tt (else2 .if2 .left);
+      offends = slot (found .before) s e (not-false _ (found .if1 .left));
+      under = search-passed 8 (slots s) f tt (test .if2 .left);
     }
     )
 

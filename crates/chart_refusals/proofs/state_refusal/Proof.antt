@@ -20,12 +20,15 @@ Inv-loop n left v₀ v = (v ≤ n) × ((u : ℕ) → u < v → not (member (getD
 abbrev μ-loop : tie.MeasureT-loop
 μ-loop n left v₀ v = n - v
 
--- the stops: the call, the loop's head, a state tested
+-- the stops: the call, and the loop's head from inside and from the end
 abbrev start : tie.At-loop Inv-loop μ-loop → tie.Start Inv-loop μ-loop
 start c = c .before
 
 abbrev head : tie.After-has Inv-loop μ-loop → tie.At-loop Inv-loop μ-loop
 head c = c .before .before
+
+abbrev ended : tie.After-accepted Inv-loop μ-loop → tie.At-loop Inv-loop μ-loop
+ended c = c .before .before
 
 loop-holds : tie.Need-loop-holds Inv-loop μ-loop
 loop-holds c = (omega arith, below-none _)
@@ -45,14 +48,14 @@ says h u l = ap not (sym (h .tells u l))
 returns : tie.Need-returns Inv-loop μ-loop
 returns c s m h =
     let test = c .before in
-    let at = head (test .before) in
+    let asked = test .before in
+    let at = head asked in
     let few = start at .pre in
-    let inside = test .before .before .loop-test .taken in
     c .refused .ensures ∙
     search-found 9 (
     record {
-      inside = inside;
-      offends = says h (at .loop .v) (omega (arith, few)) ∙ ap not (sym (test .before .has .ensures)) ∙ test .if1 .taken;
+      inside = asked .before .loop-test .taken;
+      offends = says h (at .loop .v) (omega (arith, few)) ∙ ap not (sym (asked .has .ensures)) ∙ test .if1 .taken;
       under = λ u l. says h u (omega (arith, few)) ∙ at .loop .inv .1 u l;
     }
     )
@@ -65,7 +68,7 @@ loop-again c = (
 
 returns-2 : tie.Need-returns-2 Inv-loop μ-loop
 returns-2 c s m h =
-    let at = c .before .before in
+    let at = ended c in
     let few = start at .pre in
     c .accepted .ensures ∙ search-ended 9 (λ u l. says h u (omega (arith, few)) ∙ at .loop .inv .1 u (omega arith))
 

@@ -4,7 +4,7 @@ use native.Mathlib.Omega.{arith}
 use mir.Syntax.{w64}
 use mir.Val.{Fits}
 use lib.ListN.{length}
-use Rattle.chart.proofs.Reading.{shaped}
+use Rattle.chart.proofs.Reading.{shaped, counted}
 use Rattle.fill.proofs.Cleared.{Cleared, cleared-none, cleared-more, cleared-all, cleared-sured, chosen}
 use Rattle.fill.proofs.clear_each.Statement.{statement}
 use Rattle.fill.proofs.clear_each.Tie as tie
@@ -30,6 +30,10 @@ start c = c .before .before .before .before
 
 loop-holds : tie.Need-loop-holds Inv-loop μ-loop
 loop-holds c = (omega arith, cleared-none)
+
+arrow-requires : tie.Need-arrow-requires Inv-loop μ-loop
+arrow-requires c κs =
+    let p = start (c .before) .pre .0 in (counted p, omega (arith, p .arrows, c .loop-test .taken))
 
 module _ (c : tie.After-arrow Inv-loop μ-loop) where
   -- the arrow starts and ends at states
@@ -64,7 +68,6 @@ returns c =
 pub clear-each-spec : {M : Type 1} → statement M
 clear-each-spec =
     tie.close
-    (tie.spec Inv-loop μ-loop loop-holds
-    (λ c κs. (start (c .before) .pre .0, c .loop-test .taken)) fits (λ c. starts (c .before))
+    (tie.spec Inv-loop μ-loop loop-holds arrow-requires fits (λ c. starts (c .before))
     (λ c. omega arith) (λ c κs. omega arith) shared-slice-read-either (λ c κs. tt) (λ c. fits (read (full c)))
     (λ c. starts (read (full c))) (λ c. omega arith) (λ c. omega arith) loop-again same-length returns)

@@ -7,6 +7,7 @@ use native.Mathlib.Omega.{arith}
 use denote.Ref.{now}
 use Rattle.chart.specs.Bytes.{arrowCount, arrowOf, chartOf}
 use Rattle.chart.proofs.Chart.{arrow-mem}
+use Rattle.chart.proofs.Reading.{counted}
 use Rattle.hints.specs.Values.{Open}
 use Rattle.hints.proofs.Led.{Led, led-none, led-more, led-round}
 use Rattle.hints.proofs.circles.Statement.{statement}
@@ -51,7 +52,7 @@ returns : tie.Need-returns Inv-loop μ-loop
 returns c = λ go opens e. absurd (false≢true e)
 
 arrow-requires : tie.Need-arrow-requires Inv-loop μ-loop
-arrow-requires c κs = (start (loop c) .pre .0, c .if1 .left)
+arrow-requires c κs = let p = start (loop c) .pre .0 in (counted p, omega (arith, p .arrows, c .if1 .left))
 
 returns-2 : tie.Need-returns-2 Inv-loop μ-loop
 returns-2 c = λ go opens e. absurd (false≢true e)

@@ -3,7 +3,7 @@ use mathlib.Core.Path.{_≡_}
 use Prim.Native.Nat.{_≤_, _-_}
 use native.Mathlib.Omega.{arith}
 use lib.ListN.{length, length-set}
-use Rattle.chart.proofs.Reading.{shaped}
+use Rattle.chart.proofs.Reading.{shaped, counted}
 use Rattle.hints.proofs.start.Statement.{statement}
 use Rattle.hints.proofs.start.Tie as tie
 
@@ -29,6 +29,10 @@ read c = c .before
 loop-holds : tie.Need-loop-holds Inv-loop μ-loop
 loop-holds c = (omega arith, entry c .pre .1)
 
+arrow-requires : tie.Need-arrow-requires Inv-loop μ-loop
+arrow-requires c κs =
+    let p = begun (c .before) .pre .0 in (counted p, omega (arith, p .arrows, c .loop-test .taken))
+
 hinted-requires : tie.Need-hinted-requires Inv-loop μ-loop
 hinted-requires c κs =
     (omega arith, omega (arith, c .before .loop-test .taken, shaped (begun (loop c) .pre .0) .few-arrows))
@@ -49,5 +53,5 @@ same-length c = omega (arith, c .before .loop .inv .1, begun (c .before) .pre .1
 pub start-spec : {M : Type 1} → statement M
 start-spec =
     tie.close
-    (tie.spec Inv-loop μ-loop loop-holds (λ c κs. (begun (c .before) .pre .0, c .loop-test .taken)) hinted-requires
+    (tie.spec Inv-loop μ-loop loop-holds arrow-requires hinted-requires
     mul-numbers slice-write-numbers (λ c. omega arith) (λ c. omega arith) loop-again same-length (λ c. tt))

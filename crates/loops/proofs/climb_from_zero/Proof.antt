@@ -15,44 +15,56 @@ Inv-loop search chart n m numbers₀ numbers = Climbs (chartOf chart) search num
 abbrev μ-loop : tie.MeasureT-loop
 μ-loop search chart n m numbers₀ numbers = room search numbers
 
+-- the stops: the call, the numbers cleared, the loop's head, a round climbed
+abbrev start : tie.After-clear Inv-loop μ-loop → tie.Start Inv-loop μ-loop
+start c = c .before .before .before .before
+
+abbrev cleared : tie.At-loop Inv-loop μ-loop → tie.After-clear Inv-loop μ-loop
+cleared c = c .before .before .before
+
+abbrev head : tie.After-climb-round Inv-loop μ-loop → tie.At-loop Inv-loop μ-loop
+head c = c .before .before
+
+abbrev round : tie.After-slice-known3 Inv-loop μ-loop → tie.After-climb-round Inv-loop μ-loop
+round c = c .before .before
+
 loop-holds : tie.Need-loop-holds Inv-loop μ-loop
 loop-holds c = same
 
 climb-round-requires : tie.Need-climb-round-requires Inv-loop μ-loop
 climb-round-requires c κs =
-    let at-loop = c .before in
-    let cleared = at-loop .before .before .before in
-    let p = cleared .before .before .before .before .pre in
-    let zeros = cleared-numbers _ (cleared .clear .kept .0 ∙ p .1) (cleared .clear .ensures) in
-    (p .0, climb-numbers zeros (at-loop .loop .inv))
+    let at = c .before in
+    let clear = cleared at in
+    let p = start clear .pre in
+    let zeros = cleared-numbers _ (clear .clear .kept .0 ∙ p .1) (clear .clear .ensures) in
+    (p .0, climb-numbers zeros (at .loop .inv))
 
 loop-less : tie.Need-loop-less Inv-loop μ-loop
-loop-less c = c .before .before .before .climb-round .ensures .falls (omega arith)
+loop-less c = round (c .before) .climb-round .ensures .falls (omega arith)
 
 loop-again : tie.Need-loop-again Inv-loop μ-loop
 loop-again c =
-    let climbed = c .before .before .before in
-    climb-trans (climbed .before .before .loop .inv) (climbed .climb-round .ensures .climbs)
+    let climbed = round (c .before) in
+    climb-trans (head climbed .loop .inv) (climbed .climb-round .ensures .climbs)
 
 same-length : tie.Need-same-length Inv-loop μ-loop
 same-length c =
-    let climbed = c .before .before .before in
-    let at-loop = climbed .before .before in
-    let climbs = climb-trans (at-loop .loop .inv) (climbed .climb-round .ensures .climbs) in
-    climb-size climbs ∙ at-loop .before .before .before .clear .kept .0
+    let climbed = round (c .before) in
+    let at = head climbed in
+    let climbs = climb-trans (at .loop .inv) (climbed .climb-round .ensures .climbs) in
+    climb-size climbs ∙ cleared at .clear .kept .0
 
 returns : tie.Need-returns Inv-loop μ-loop
 returns c =
-    let climbed = c .before .before .before in
-    let at-loop = climbed .before .before in
-    let cleared = at-loop .before .before .before in
-    let p = cleared .before .before .before .before .pre in
+    let climbed = round (c .before) in
+    let at = head climbed in
+    let clear = cleared at in
     let x = climbed .climb-round .ensures in
     record {
-      start = cleared .clear .last .0;
-      zeros = cleared .clear .ensures;
-      climbs = climb-trans (at-loop .loop .inv) (x .climbs);
-      quiet = climbed-quiet (p .0) x (c .if1 .left);
+      start = clear .clear .last .0;
+      zeros = clear .clear .ensures;
+      climbs = climb-trans (at .loop .inv) (x .climbs);
+      quiet = climbed-quiet (start clear .pre .0) x (c .if1 .left);
     }
 
 pub climb-from-zero-spec : {M : Type 1} → statement M

@@ -1,5 +1,5 @@
 -- Invariant: the first i arrows were tried.
-use mathlib.Core.Path.{subst}
+use mathlib.Core.Path.{refl, subst}
 use Prim.Native.Nat.{ℕ, _≤_, _-_}
 use native.Mathlib.Omega.{arith}
 use denote.Ref.{now}
@@ -17,35 +17,49 @@ Inv-loop search chart n m numbers₀ raised₀ i₀ numbers raised i =
 abbrev μ-loop : tie.MeasureT-loop
 μ-loop search chart n m numbers₀ raised₀ i₀ numbers raised i = m - i
 
+-- the stops: the call, the loop's head, an arrow tried
+abbrev start : tie.At-loop Inv-loop μ-loop → tie.Start Inv-loop μ-loop
+start c = c .before .before .before
+
+abbrev head : tie.After-climb-arrow-arg Inv-loop μ-loop → tie.At-loop Inv-loop μ-loop
+head c = c .before .before
+
+abbrev tried : tie.After-slice-known2 Inv-loop μ-loop → tie.After-climb-arrow Inv-loop μ-loop
+tried c = c .before .before
+
 loop-holds : tie.Need-loop-holds Inv-loop μ-loop
 loop-holds c = (omega arith, climbed-none)
 
 climb-arrow-requires : tie.Need-climb-arrow-requires Inv-loop μ-loop
 climb-arrow-requires c κs =
-    let p = c .before .before .before .before .before .pre in
-    let inv = c .before .before .loop .inv in
-    (p .0, c .before .loop-test .taken, climb-numbers (p .1) (inv .1 .climbs))
+    let at = head c in
+    let p = start at .pre in
+    let x = p .0 in (
+      (
+        record { states = x .states; arrows = refl; unrefused = x .unrefused },
+        omega (arith, c .before .loop-test .taken, x .arrows),
+      ),
+      climb-numbers (p .1) (at .loop .inv .1 .climbs),
+    )
 
 add-raised : tie.Need-add-raised Inv-loop μ-loop
 add-raised c =
-    let climbed = c .before .before in
-    let at-loop = climbed .before .before .before in
-    let inv = at-loop .loop .inv in
-    let p = at-loop .before .before .before .pre in
-    omega (arith, inv .0, inv .1 .few, climbed .climb-arrow .ensures .few, shaped (p .0) .few-arrows)
+    let arrow = tried c in
+    let at = head (arrow .before) in
+    let inv = at .loop .inv in
+    omega (arith, inv .0, inv .1 .few, arrow .climb-arrow .ensures .few, shaped (start at .pre .0) .few-arrows)
 
 loop-again : tie.Need-loop-again Inv-loop μ-loop
 loop-again c =
-    let climbed = c .before .before in
-    let at-loop = climbed .before .before .before in
-    (omega arith, climbed-more (at-loop .loop .inv .1) (climbed .climb-arrow .ensures))
+    let arrow = tried c in
+    (omega arith, climbed-more (head (arrow .before) .loop .inv .1) (arrow .climb-arrow .ensures))
 
 same-length : tie.Need-same-length Inv-loop μ-loop
 same-length c = climb-size (c .before .loop .inv .1 .climbs)
 
 returns : tie.Need-returns Inv-loop μ-loop
 returns c =
-    let a = c .before .before .before .before .args in
+    let a = start (c .before) .args in
     let loop = c .before .loop in
     subst (λ (k : ℕ). Climbed (now (a .chart)) (a .search) 0 k (loop .raised) (now (a .numbers)) (loop .numbers))
     (omega arith) (loop .inv .1)

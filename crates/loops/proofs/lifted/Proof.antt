@@ -4,13 +4,16 @@ use Rattle.loops.proofs.lifted.Statement.{statement}
 use Rattle.loops.proofs.lifted.Tie as tie
 
 rank-requires : tie.Need-rank-requires
-rank-requires c κs = rw (c .before .search .given .1) at (c .before .before .before .pre)
+rank-requires c κs =
+    let known = c .before in
+    let match = known .before in
+    rw (known .search .given .1) at (match .before .pre)
 
 returns : tie.Need-returns
-returns c = rw (c .before .before .search .given .1) (c .rank .ensures)
+returns c = let told = c .before in rw (told .before .search .given .1) (c .rank .ensures)
 
 returns-2 : tie.Need-returns-2
-returns-2 c = rw (c .before .before .search2 .given .1, c .own-bit .ensures)
+returns-2 c = let told = c .before in rw (told .before .search2 .given .1, c .own-bit .ensures)
 
 pub lifted-spec : {M : Type 1} → statement M
 lifted-spec =

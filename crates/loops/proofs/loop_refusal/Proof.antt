@@ -5,12 +5,18 @@ use Rattle.loops.proofs.Row.{row-not-found}
 use Rattle.loops.proofs.loop_refusal.Statement.{statement}
 use Rattle.loops.proofs.loop_refusal.Tie as tie
 
+-- the stops: the call, and a loop looked for
+abbrev start : tie.After-some-loop → tie.Start
+start c = c .before .before .before .before
+
+abbrev looked : tie.Else1 → tie.After-some-loop
+looked c = c .before .before .before
+
 returns-2 : tie.Need-returns-2
 returns-2 c =
-    let looked = c .before .before .before .before in
-    let start = looked .before .before .before .before in
-    let found = sym (c .before .if1 .left) ∙ looked .some-loop .ensures in
-    row-not-found (start .pre .0) found (c .accepted .ensures)
+    let test = c .before in
+    let found = sym (test .if1 .left) ∙ looked test .some-loop .ensures in
+    row-not-found (start (looked test) .pre .0) found (c .accepted .ensures)
 
 pub loop-refusal-spec : {M : Type 1} → statement M
 loop-refusal-spec =

@@ -4,8 +4,11 @@ use Rattle.loops.proofs.Raised.{rests, rises}
 use Rattle.loops.proofs.raise.Statement.{statement}
 use Rattle.loops.proofs.raise.Tie as tie
 
+abbrev start : tie.After-slice-known3 → tie.Start
+start c = c .before .before .before
+
 lifted-requires : tie.Need-lifted-requires
-lifted-requires c κs = c .before .before .before .pre .1 _
+lifted-requires c κs = start c .pre .1 _
 
 returns : tie.Need-returns
 returns c = rests _ _ _ _ (c .before .lifted .ensures) (c .if1 .taken)

@@ -2,6 +2,7 @@
 use mathlib.Core.Path.{_≡_}
 use Prim.Native.Nat.{ℕ, _≤_, _<_, _-_}
 use native.Mathlib.Omega.{arith}
+use lib.ListN.{length}
 use borrow.Author.Count.{below-none, below-more}
 use denote.Ref.{now}
 use Rattle.model.specs.Engine.{num}
@@ -16,50 +17,65 @@ Inv-loop chart n m numbers cap s₀ s = (s ≤ n) × ((v : ℕ) → v < s → ¬
 abbrev μ-loop : tie.MeasureT-loop
 μ-loop chart n m numbers cap s₀ s = n - s
 
+-- the stops: the call, the numbers climbed, the loop's head
+abbrev call : tie.After-slice-known Inv-loop μ-loop → tie.Start Inv-loop μ-loop
+call c = c .before .before
+
+abbrev climbed : tie.At-loop Inv-loop μ-loop → tie.After-climb-from-zero Inv-loop μ-loop
+climbed c = c .before .before .before
+
+abbrev start : tie.At-loop Inv-loop μ-loop → tie.Start Inv-loop μ-loop
+start c = call (climbed c .before .before)
+
+abbrev head : tie.After-slice-known3 Inv-loop μ-loop → tie.At-loop Inv-loop μ-loop
+head c = c .before .before
+
+-- the climb keeps how many numbers there are
+kept :
+    (c : tie.At-loop Inv-loop μ-loop) →
+    length (climbed c .climb-from-zero .last .1 .1 .1 .1 .0) ≡ length (now (start c .args .numbers))
+kept c = climbed c .climb-from-zero .kept .1 .1 .1 .1 .0
+
 cast-cap : tie.Need-cast-cap Inv-loop μ-loop
-cast-cap c = omega (arith, shaped (c .before .before .pre .0) .few-states)
+cast-cap c = omega (arith, shaped (call c .pre .0) .few-states)
 
 climb-from-zero-requires : tie.Need-climb-from-zero-requires Inv-loop μ-loop
-climb-from-zero-requires c κs = c .before .before .before .pre
+climb-from-zero-requires c κs = call (c .before) .pre
 
 loop-holds : tie.Need-loop-holds Inv-loop μ-loop
 loop-holds c = (omega arith, below-none _)
 
 mul-if1 : tie.Need-mul-if1 Inv-loop μ-loop
-mul-if1 c =
-    let start = c .before .before .before .before .before .before .before .before in
-    omega (arith, shaped (start .pre .0) .few-states)
+mul-if1 c = omega (arith, shaped (start (c .before) .pre .0) .few-states)
 
 slice-read-if1 : tie.Need-slice-read-if1 Inv-loop μ-loop
 slice-read-if1 c =
-    let climbed = c .before .before .before .before .before in
-    omega (arith, climbed .climb-from-zero .kept .1 .1 .1 .1 .0, climbed .before .before .before .before .pre .1)
+    let at = head c in
+    omega (arith, kept at, start at .pre .1)
 
 same-length : tie.Need-same-length Inv-loop μ-loop
-same-length c = c .before .before .before .before .before .before .climb-from-zero .kept .1 .1 .1 .1 .0
+same-length c = kept (head (c .before))
 
 returns : tie.Need-returns Inv-loop μ-loop
 returns c =
-    let in-loop = c .before .before in
-    let climbed = in-loop .before .before .before .before in
-    let start = climbed .before .before .before .before in
-    loop-found (now (start .args .chart)) (start .pre .0) (climbed .climb-from-zero .ensures) (in-loop .before .loop .s)
-    (in-loop .loop-test .taken) (c .if1 .taken)
+    let read = c .before in
+    let at = head read in
+    loop-found (now (start at .args .chart)) (start at .pre .0) (climbed at .climb-from-zero .ensures) (at .loop .s)
+    (read .before .loop-test .taken) (c .if1 .taken)
 
 loop-again : tie.Need-loop-again Inv-loop μ-loop
 loop-again c =
-    let loop = c .before .before .before .loop in
+    let loop = head (c .before) .loop in
     (omega arith, below-more _ (loop .s) (loop .inv .1) (c .if1 .left))
 
 same-length-2 : tie.Need-same-length-2 Inv-loop μ-loop
-same-length-2 c = c .before .before .before .before .climb-from-zero .kept .1 .1 .1 .1 .0
+same-length-2 c = kept (c .before)
 
 returns-2 : tie.Need-returns-2 Inv-loop μ-loop
 returns-2 c =
-    let climbed = c .before .before .before .before in
-    let start = climbed .before .before .before .before in
-    none-found (now (start .args .chart)) (start .pre .0) (climbed .climb-from-zero .ensures)
-    (λ v l. c .before .loop .inv .1 v (omega arith))
+    let at = c .before in
+    none-found (now (start at .args .chart)) (start at .pre .0) (climbed at .climb-from-zero .ensures)
+    (λ v l. at .loop .inv .1 v (omega arith))
 
 pub some-loop-spec : {M : Type 1} → statement M
 some-loop-spec =

@@ -13,10 +13,29 @@ use Rattle.rule_refusals.proofs.Malformed.{malformed-until, malformed-u
 use Rattle.rule_refusals.proofs.is_malformed.Statement.{statement}
 use Rattle.rule_refusals.proofs.is_malformed.Tie as tie
 
+-- the stops: the call, the form, and what the tests after it left: an until, no until, no kind, one operand at most
+abbrev start : tie.After-form → tie.Start
+start c = c .before
+
+abbrev bounded : tie.After-struct-known → tie.Then1
+bounded c = c .before
+
+abbrev formed : tie.Else3 → tie.After-form
+formed c = c .before .before
+
+abbrev unbounded : tie.After-struct-known3 → tie.Else3
+unbounded c = c .before
+
+abbrev kindless : tie.After-struct-known4 → tie.Else4
+kindless c = c .before
+
+abbrev few : tie.After-struct-known5 → tie.Else6
+few c = c .before
+
 -- an until
 module _ (c : tie.Then1) where
   abbrev until : NodeWords
-  until = c .before .before .args .w
+  until = start (c .before) .args .w
 
   bound : formOf (until .operation) ≡ 4
   bound = sym (c .before .form .ensures) ∙ c .if1 .taken
@@ -24,13 +43,13 @@ module _ (c : tie.Then1) where
 -- an operation without a bound
 module _ (c : tie.Else3) where
   abbrev node : NodeWords
-  node = c .before .before .before .args .w
+  node = start (formed c) .args .w
 
   abbrev form : ℕ
   form = formOf (node .operation)
 
-  same : c .before .before .form .result ≡ form
-  same = c .before .before .form .ensures
+  same : formed c .form .result ≡ form
+  same = formed c .form .ensures
 
   plain : form ≤ 3
   plain = omega (arith, same, c .before .if1 .left, c .if3 .left)
@@ -38,43 +57,44 @@ module _ (c : tie.Else3) where
 -- such a one with neither kind nor c: b and a are left
 module _ (c : tie.Else5) where
   abbrev known : tie.Else3
-  known = c .before .before .before .before
+  known = unbounded (kindless (c .before) .before)
 
   fields-left :
       malformed (node known) ≡
       ((ltb (form known) 3 && not (eqb (node known .b) 0)) || wrongA (form known) (node known .a))
   fields-left =
       malformed-plain (node known) (plain known) ∙
-      rw (eq-eqb (node known .kind) 0 (c .before .before .if4 .left), eq-eqb (node known .c) 0 (c .if5 .left))
+      rw (eq-eqb (node known .kind) 0 (kindless (c .before) .if4 .left), eq-eqb (node known .c) 0 (c .if5 .left))
 
 returns : tie.Need-returns
 returns c =
-    let w = until (c .before .before) in
-    rw (malformed-until w (bound (c .before .before)), lt-ltb (w .kind) 1 (c .if2 .taken))
+    let u = bounded (c .before) in
+    rw (malformed-until (until u) (bound u), lt-ltb (until u .kind) 1 (c .if2 .taken))
 
 returns-2 : tie.Need-returns-2
 returns-2 c =
-    let first = c .before .before .before in
-    let w = until first in
-    rw (malformed-until w (bound first), le-ltb (w .kind) 1 (c .before .if2 .left))
+    let test = c .before in
+    let u = bounded (test .before) in
+    rw (malformed-until (until u) (bound u), le-ltb (until u .kind) 1 (test .if2 .left))
 
 returns-3 : tie.Need-returns-3
 returns-3 c =
-    let formed = c .before .before in
-    sym (malformed-unknown (formed .before .args .w) (omega (arith, formed .form .ensures)))
+    let test = c .before in
+    let f = test .before in
+    sym (malformed-unknown (start f .args .w) (omega (arith, f .form .ensures)))
 
 returns-4 : tie.Need-returns-4
 returns-4 c =
-    let p = c .before .before in
+    let p = unbounded (c .before) in
     rw (malformed-plain (node p) (plain p), ne-eqb (node p .kind) 0 (c .if4 .taken))
 
 returns-5 : tie.Need-returns-5
 returns-5 c =
-    let else4 = c .before .before in
-    let p = else4 .before .before in
+    let k = kindless (c .before) in
+    let p = unbounded (k .before) in
     rw (
       malformed-plain (node p) (plain p),
-      eq-eqb (node p .kind) 0 (else4 .if4 .left),
+      eq-eqb (node p .kind) 0 (k .if4 .left),
       ne-eqb (node p .c) 0 (c .if5 .taken),
     )
 
@@ -92,17 +112,18 @@ returns-6 c =
 
 returns-7 : tie.Need-returns-7
 returns-7 c =
-    let else6 = c .before .before in
-    let p = known (else6 .before) in
+    let f = few (c .before) in
+    let p = known (f .before) in
     let e = same p in
-    rw (fields-left (else6 .before), lt-ltb (form p) 3 (omega arith), ne-eqb (node p .b) 0 (c .if7 .taken))
+    rw (fields-left (f .before), lt-ltb (form p) 3 (omega arith), ne-eqb (node p .b) 0 (c .if7 .taken))
 
 returns-8 : tie.Need-returns-8
 returns-8 c =
-    let else6 = c .before .before .before in
-    let p = known (else6 .before) in
+    let test = c .before in
+    let f = few (test .before) in
+    let p = known (f .before) in
     let e = same p in
-    rw (fields-left (else6 .before), lt-ltb (form p) 3 (omega arith), eq-eqb (node p .b) 0 (c .before .if7 .left)) (
+    rw (fields-left (f .before), lt-ltb (form p) 3 (omega arith), eq-eqb (node p .b) 0 (test .if7 .left)) (
     c .wrong-a .ensures ∙ ap (λ f. wrongA f (node p .a)) e
     )
 

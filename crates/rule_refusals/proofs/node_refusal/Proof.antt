@@ -18,12 +18,15 @@ Inv-loop row rule k t₀ t = (t ≤ k) × ((u : ℕ) → u < t → offends row u
 abbrev μ-loop : tie.MeasureT-loop
 μ-loop row rule k t₀ t = k - t
 
--- the stops: the call, the loop's head, a node read
+-- the stops: the call, the loop's head from inside and from the end, a node read
 abbrev start : tie.At-loop Inv-loop μ-loop → tie.Start Inv-loop μ-loop
 start c = c .before .before
 
 abbrev head : tie.After-node-at Inv-loop μ-loop → tie.At-loop Inv-loop μ-loop
 head c = c .before .before
+
+abbrev ended : tie.After-accepted Inv-loop μ-loop → tie.At-loop Inv-loop μ-loop
+ended c = c .before .before
 
 abbrev read : tie.After-offending Inv-loop μ-loop → tie.After-node-at Inv-loop μ-loop
 read c = c .before
@@ -64,7 +67,7 @@ loop-again c = (omega arith, below-more _ _ (head (read (c .before)) .loop .inv 
 
 returns-2 : tie.Need-returns-2 Inv-loop μ-loop
 returns-2 c =
-    let at = c .before .before in
+    let at = ended c in
     c .accepted .ensures ∙ search-ended (start at .args .row) (λ u l. at .loop .inv .1 u (omega arith))
 
 pub node-refusal-spec : {M : Type 1} → statement M

@@ -10,15 +10,25 @@ use Rattle.rule.proofs.Passed.{size-passed, body-last}
 use Rattle.rule_refusals.proofs.rule_refusal.Statement.{statement}
 use Rattle.rule_refusals.proofs.rule_refusal.Tie as tie
 
+-- the stops: the call, and the refusals of head and size as each is tested
+abbrev start : tie.After-head-refusal → tie.Start
+start c = c .before .before
+
+abbrev head : tie.After-struct-known → tie.After-head-refusal
+head c = c .before
+
+abbrev size : tie.After-struct-known2 → tie.After-size-refusal
+size c = c .before
+
 -- past the first test there are 7 bytes
-long : (c : tie.Else1) → 7 ≤ length (now (c .before .before .before .before .args .rule))
+long : (c : tie.Else1) → 7 ≤ length (now (start (head (c .before)) .args .rule))
 long c =
-    head-passed 10 7 (now (c .before .before .before .before .args .rule)) tt (c .before .before .head-refusal .ensures)
-    (c .if1 .left)
+    let h = head (c .before) in
+    head-passed 10 7 (now (start h .args .rule)) tt (h .head-refusal .ensures) (c .if1 .left)
 
 returns : tie.Need-returns
 unfolding ruleTable
-returns c = part-refuses _ _ (c .before .before .head-refusal .ensures) (c .if1 .taken)
+returns c = part-refuses _ _ (head (c .before) .head-refusal .ensures) (c .if1 .taken)
 
 size-refusal-requires : tie.Need-size-refusal-requires
 size-refusal-requires c κs = long c
@@ -26,25 +36,30 @@ size-refusal-requires c κs = long c
 returns-2 : tie.Need-returns-2
 unfolding ruleTable
 returns-2 c =
-    part-passes _ _ tt (c .before .before .before .before .before .head-refusal .ensures)
-    (c .before .before .before .if1 .left)
-    (part-refuses _ _ (c .before .before .size-refusal .ensures) (c .if2 .taken))
+    let sized = size (c .before) in
+    let headed = sized .before in
+    part-passes _ _ tt (head (headed .before) .head-refusal .ensures) (headed .if1 .left)
+    (part-refuses _ _ (sized .size-refusal .ensures) (c .if2 .taken))
 
 node-count-requires : tie.Need-node-count-requires
-node-count-requires c κs = long (c .before .before .before)
+node-count-requires c κs = long (size (c .before) .before)
 
 body-refusal-requires : tie.Need-body-refusal-requires
 body-refusal-requires c κs =
+    let test = c .before in
     size-passed _ (c .node-count .ensures .0)
-    (part-zero _ (c .before .before .before .size-refusal .ensures) (c .before .if2 .left))
+    (part-zero _ (size (test .before) .size-refusal .ensures) (test .if2 .left))
 
 returns-3 : tie.Need-returns-3
 unfolding ruleTable
 returns-3 c =
-    part-passes _ _ tt (c .before .before .before .before .before .before .before .head-refusal .ensures)
-    (c .before .before .before .before .before .if1 .left)
-    (part-passes _ _ tt (c .before .before .before .before .size-refusal .ensures) (c .before .before .if2 .left)
-    (body-last _ (c .before .node-count .ensures .0) (c .body-refusal .ensures)))
+    let counted = c .before in
+    let test = counted .before in
+    let sized = size (test .before) in
+    let headed = sized .before in
+    part-passes _ _ tt (head (headed .before) .head-refusal .ensures) (headed .if1 .left)
+    (part-passes _ _ tt (sized .size-refusal .ensures) (test .if2 .left)
+    (body-last _ (counted .node-count .ensures .0) (c .body-refusal .ensures)))
 
 pub rule-refusal-spec : {M : Type 1} → statement M
 rule-refusal-spec =

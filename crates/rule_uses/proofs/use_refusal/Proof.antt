@@ -18,7 +18,7 @@ Inv-loop rule k used last v₀ v = (v ≤ last) × ((u : ℕ) → u < v → not 
 abbrev μ-loop : tie.MeasureT-loop
 μ-loop rule k used last v₀ v = last - v
 
--- the stops: the call, the count, the loop's head, and a node tested
+-- the stops: the call, the count, and the loop's head from inside and from the end
 abbrev start : tie.After-used-nodes Inv-loop μ-loop → tie.Start Inv-loop μ-loop
 start c = c .before .before
 
@@ -27,6 +27,9 @@ counted c = c .before
 
 abbrev head : tie.After-used-once Inv-loop μ-loop → tie.At-loop Inv-loop μ-loop
 head c = c .before .before
+
+abbrev ended : tie.After-accepted Inv-loop μ-loop → tie.At-loop Inv-loop μ-loop
+ended c = c .before .before
 
 few : (c : tie.At-loop Inv-loop μ-loop) → start (counted c) .args .k ≤ 64
 few c = start (counted c) .pre .shape .few-nodes
@@ -53,12 +56,13 @@ cast-refused c = omega (arith, few (head (c .before)))
 returns : tie.Need-returns Inv-loop μ-loop
 returns c =
     let test = c .before in
+    let asked = test .before in
     c .refused .ensures ∙
     search-found 16 (
     record {
-      inside = test .before .before .loop-test .taken;
-      offends = told (test .before) (test .if1 .taken);
-      under = head (test .before) .loop .inv .1;
+      inside = asked .before .loop-test .taken;
+      offends = told asked (test .if1 .taken);
+      under = head asked .loop .inv .1;
     }
     )
 
@@ -66,8 +70,7 @@ loop-again : tie.Need-loop-again Inv-loop μ-loop
 loop-again c = (omega arith, below-more _ _ (head (c .before) .loop .inv .1) (told (c .before) (c .if1 .left)))
 
 returns-2 : tie.Need-returns-2 Inv-loop μ-loop
-returns-2 c =
-    c .accepted .ensures ∙ search-ended 16 (λ u l. c .before .before .loop .inv .1 u (omega arith))
+returns-2 c = c .accepted .ensures ∙ search-ended 16 (λ u l. ended c .loop .inv .1 u (omega arith))
 
 pub use-refusal-spec : {M : Type 1} → statement M
 use-refusal-spec =

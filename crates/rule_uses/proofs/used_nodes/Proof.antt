@@ -5,6 +5,7 @@ use native.Mathlib.Omega.{arith}
 use native.Mathlib.Numerals.{add-one}
 use denote.Ref.{now}
 use Rattle.masks.proofs.Member.{member-none}
+use Rattle.base.specs.Sum.{sum}
 use Rattle.rule.specs.Refusals.{usesIn, uses}
 use Rattle.rule.specs.Shape.{SmallOperands}
 use Rattle.rule_uses.specs.Counted.{Counted}
@@ -26,7 +27,7 @@ abbrev head : tie.After-node-at Inv-loop μ-loop → tie.At-loop Inv-loop μ-loo
 head c = c .before .before
 
 loop-holds : tie.Need-loop-holds Inv-loop μ-loop
-unfolding uses
+unfolding uses sum
 loop-holds c = (
   omega arith,
   record { once = record { tells = λ v l. member-none v }; again = record { tells = λ v l. member-none v } },
@@ -41,7 +42,7 @@ with-operands-requires c κs =
     subst SmallOperands (sym (c .node-at .ensures .0)) (start at .pre .operands (at .loop .t) (c .before .loop-test .taken))
 
 loop-again : tie.Need-loop-again Inv-loop μ-loop
-unfolding uses
+unfolding uses sum
 loop-again c =
     let read = c .before in
     let at = head read in

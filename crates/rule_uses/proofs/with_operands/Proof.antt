@@ -10,19 +10,22 @@ use Rattle.rule_uses.proofs.Counted.{counted-same, uses-by}
 use Rattle.rule_uses.proofs.with_operands.Statement.{statement}
 use Rattle.rule_uses.proofs.with_operands.Tie as tie
 
--- the stops: the form, and the left operand used
+-- the stops: the call, and the form, from where the left operand was used
+abbrev start : tie.After-form → tie.Start
+start c = c .before
+
+abbrev formed : tie.After-with-use → tie.After-form
+formed c = c .before .before
+
 module _ (c : tie.After-form) where
   abbrev node : NodeWords
-  node = c .before .args .w
+  node = start c .args .w
 
   abbrev form : ℕ
   form = formOf (node .operation)
 
   same : c .form .result ≡ form
   same = c .form .ensures
-
-abbrev formed : tie.After-with-use → tie.After-form
-formed c = c .before .before
 
 returns : tie.Need-returns
 returns c count h =
@@ -32,7 +35,7 @@ returns c count h =
     counted-same h (λ v. omega (arith, none v))
 
 with-use-requires : tie.Need-with-use-requires
-with-use-requires c κs = let e = same (c .before) in c .before .before .pre .a (omega arith)
+with-use-requires c κs = let e = same (c .before) in start (c .before) .pre .a (omega arith)
 
 returns-2 : tie.Need-returns-2
 returns-2 c count h =
@@ -46,11 +49,12 @@ with-use-requires-2 : tie.Need-with-use-requires-2
 with-use-requires-2 c κs =
     let f = formed (c .before) in
     let e = same f in
-    f .before .pre .b (omega arith)
+    start f .pre .b (omega arith)
 
 returns-3 : tie.Need-returns-3
 returns-3 c count h =
-    let left = c .before .before in
+    let test = c .before in
+    let left = test .before in
     let f = formed left in
     let e = same f in
     let two = uses-by (node f) (le-leb 2 (form f) (omega arith)) (le-leb 3 (form f) (omega arith)) in

@@ -6,10 +6,10 @@ use Rattle.sweeps.proofs.last_raising.Statement.{statement}
 use Rattle.sweeps.proofs.last_raising.Tie as tie
 
 abbrev Inv-loop : tie.InvT-loop
-Inv-loop way chart n m floor k numbers i₀ i = Quiet way chart floor i k numbers
+Inv-loop way chart n floor k numbers i₀ i = Quiet way chart floor i k numbers
 
 abbrev μ-loop : tie.MeasureT-loop
-μ-loop way chart n m floor k numbers i₀ i = i
+μ-loop way chart n floor k numbers i₀ i = i
 
 -- the stops: a turn, and the start from where the loop is entered and from its head
 abbrev turn : tie.After-raises Inv-loop μ-loop → tie.In-loop Inv-loop μ-loop

@@ -5,7 +5,7 @@ use Prim.Native.Nat.{ℕ, _≤_}
 use native.Mathlib.Omega.{arith}
 use lib.ListN.{length}
 use Rattle.visits.specs.Moves.{Ready}
-use Rattle.visits.proofs.Went.{given-still}
+use Rattle.visits.proofs.Went.{given-still, given-counted}
 use Rattle.sweeps.specs.Sweep.{Quiet}
 use Rattle.sweeps.proofs.Swept.{Swept, quiet-none, swept-none, swept-quiet, swept-more, swept-still, swept-all}
 use Rattle.sweeps.proofs.sweep.Statement.{statement}
@@ -40,6 +40,10 @@ entry c = c .before .before .before
 abbrev start : tie.After-last-raising Inv-loop μ-loop → tie.Start Inv-loop μ-loop
 start c = entry (c .before)
 
+last-raising-requires : tie.Need-last-raising-requires Inv-loop μ-loop
+last-raising-requires c κs =
+    let p = entry c .pre in (given-counted (p .0), p .1, omega (arith, p .0 .passed .arrows))
+
 returns : tie.Need-returns Inv-loop μ-loop
 returns c =
     record {
@@ -61,10 +65,11 @@ renew-requires c κs =
 last-raising-requires-2 : tie.Need-last-raising-requires-2 Inv-loop μ-loop
 last-raising-requires-2 c κs =
     let at-loop = head (turn (tried c)) in
-    let inv = at-loop .loop .inv in (
-      given-still (start (found at-loop) .pre .0) (omega (arith, inv .1)),
+    let inv = at-loop .loop .inv in
+    let p = start (found at-loop) .pre .0 in (
+      given-counted (given-still p (omega (arith, inv .1))),
       omega arith,
-      omega (arith, inv .0, inv .3 .inside),
+      omega (arith, p .passed .arrows, inv .0, inv .3 .inside),
     )
 
 loop-less : tie.Need-loop-less Inv-loop μ-loop
@@ -94,7 +99,7 @@ returns-2 c =
 pub sweep-spec : {M : Type 1} → statement M
 sweep-spec =
     tie.close
-    (tie.spec Inv-loop μ-loop (λ c κs. let p = entry c .pre in (p .0, p .1, omega arith))
+    (tie.spec Inv-loop μ-loop last-raising-requires
     (λ c. omega (arith, start (c .before) .pre .0 .size)) returns loop-holds (λ c. omega arith) renew-requires
     last-raising-requires-2 loop-less loop-again
     (λ c. omega (arith, c .before .loop .inv .1, start (found (c .before)) .pre .0 .size)) returns-2)

@@ -32,7 +32,7 @@ returns c =
     let w = read at .arrow .ensures in
     λ go r. (
       went-none r,
-      visit-stays (start at .pre .0 .fits) (now (a .chart)) (now (a .numbers)) (a .m) (a .i) (w .0)
+      visit-stays (start at .pre .0 .fits) (now (a .chart)) (now (a .numbers)) (a .i) (w .0)
           (omega (arith, w .1 .start, start at .pre .0 .size)) (value at .value .ensures) (offer at .offered .ensures) r r
           refl (omega (arith, at .tested .ensures, c .if1 .taken)),
     )
@@ -49,7 +49,7 @@ returns-2 c =
     let a = start at .args in
     let w = read at .arrow .ensures in
     λ go r.
-    visit-moves (start at .pre .0 .fits) (now (a .chart)) (now (a .numbers)) (a .m) (a .i) (w .0)
+    visit-moves (start at .pre .0 .fits) (now (a .chart)) (now (a .numbers)) (a .i) (w .0)
     (omega (arith, w .1 .start, start at .pre .0 .size)) (value at .value .ensures) (offer at .offered .ensures) r
     (omega (arith, at .tested .ensures, new .before .if1 .left)) (c .hinted .result) (new .reached .ensures)
     (c .hinted .ensures) (start at .pre .1)

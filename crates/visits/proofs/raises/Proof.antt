@@ -26,7 +26,7 @@ returns c e go r =
     let a = start c .args in
     let w = read c .arrow .ensures in
     let b = c .beats .ensures in
-    visit-stays (start c .pre .0 .fits) (now (a .chart)) (now (a .numbers)) (a .m) (a .i) (w .0)
+    visit-stays (start c .pre .0 .fits) (now (a .chart)) (now (a .numbers)) (a .i) (w .0)
     (omega (arith, w .1 .start, start c .pre .0 .size)) (value c .value .ensures) (b .offers) r r
     refl (omega (arith, tested c .tested .ensures, ltb-false (tested c .tested .result) (b .offer) (sym (b .is) ∙ e)))
 

@@ -6,7 +6,7 @@ use lib.ListN.{length, length-set}
 use lib.Dec.{leb}
 use borrow.Author.Tests.{leb-false}
 use Rattle.base.proofs.Truth.{or-false}
-use Rattle.chart.proofs.Reading.{shaped}
+use Rattle.chart.proofs.Reading.{shaped, counted}
 use Rattle.walks.specs.Walk.{Remarked}
 use Rattle.walks.proofs.Remarked.{marked-none, marked-set}
 use Rattle.walks.proofs.trail.Statement.{statement}
@@ -55,10 +55,11 @@ cast-row c =
 arrow-requires : tie.Need-arrow-requires Inv-loop μ-loop
 arrow-requires c κs =
     let ended = tested c in
-    let p = start (head ended) .pre in
+    let p = start (head ended) .pre .0 in
     let m = start (head ended) .args .m in
     let i = ended .before .hint .result in
-    (p .0, leb-false m i (or-false (ended .ends .result) (leb m i) (c .before .if1 .left) .1))
+    let l = leb-false m i (or-false (ended .ends .result) (leb m i) (c .before .if1 .left) .1) in
+    (counted p, omega (arith, p .arrows, l))
 
 loop-again : tie.Need-loop-again Inv-loop μ-loop
 loop-again c =
