@@ -1,4 +1,1 @@
-pub mod Choice
 pub mod Written
-pub mod Sided
-pub mod Cleared

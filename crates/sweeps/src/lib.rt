@@ -7,14 +7,7 @@ use ways::Way;
 
 // One more than the last arrow from the floor on and before arrow k that would raise a number; the floor if none would. A
 // loop of its own, for the arrows that change nothing are most of them.
-fn last_raising(
-    way: Way,
-    chart: &[u8],
-    n: usize,
-    floor: usize,
-    k: usize,
-    numbers: &[u32],
-) -> usize
+fn last_raising(way: Way, chart: &[u8], n: usize, floor: usize, k: usize, numbers: &[u32]) -> usize
     requires { ⌜ Given way (now chart) n (arrowCount (now chart)) (now numbers) × (floor ≤ k) × (k ≤ arrowCount (now chart)) ⌝ }
     ensures { λ r. ⌜ Quiet way (now (chart .entry)) floor r k (now (numbers .entry)) ⌝ }
 {

@@ -15,7 +15,7 @@ use Rattle.hints.specs.Values.{valueOf, values}
 use Rattle.hints.proofs.Values.{value-at}
 use Rattle.ways.specs.declared.Way.the-variants.{Lower, Raise}
 use Rattle.ways.specs.Way.{top, leftOver}
-use Rattle.fill.specs.declared.Initial.the-variants.{Reach, Goal}
+use Rattle.initial.specs.declared.Initial.the-variants.{Reach, Goal}
 use Rattle.until_start.specs.Risen.{Risen}
 use Rattle.until_start.specs.FromOperands.{someMeets, allMeet, unhinderedUpTo}
 use Rattle.until_start.proofs.Waits.{answers, up-to, one-more, left-at, at-most-left, left-tabulated, left-reach, plain-answers}

@@ -3,7 +3,7 @@ ghost use Prim.Native.Nat.{_<_};
 ghost use Rattle.tctl.specs.Formula.{atMost, atLeast};
 ghost use Rattle.until_start.specs.Lent.{Lent, OperandsBelow};
 ghost use Rattle.until_start.specs.FromOperands.{FromOperands, someMeets};
-use fill::Initial;
+use initial::Initial;
 use rule::NodeWords;
 use ways::Climb;
 use ways::Way;

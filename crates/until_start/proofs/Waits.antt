@@ -21,7 +21,7 @@ use Rattle.hints.specs.Values.{valueOf, values}
 use Rattle.hints.proofs.Values.{value-at, values-length, num-map}
 use Rattle.ways.specs.declared.Way.the-variants.{Raise}
 use Rattle.ways.specs.Way.{top, leftOver}
-use Rattle.fill.specs.declared.Initial.the-variants.{Fail}
+use Rattle.initial.specs.declared.Initial.the-variants.{Fail}
 use Rattle.until_start.specs.Risen.{Risen}
 use Rattle.until_start.specs.FromOperands.{unhinderedUpTo, allMeetPlain}
 

@@ -9,8 +9,8 @@ use Rattle.hints.specs.Values.{values}
 use Rattle.ways.specs.declared.Way.{Way}
 use Rattle.ways.specs.Way.{highest, Fits, ceilingOf}
 use Rattle.engine.specs.AsModel.{minutesOf, settled}
-use Rattle.fill.specs.declared.Initial.{Initial}
-use Rattle.fill.specs.Fill.{capOf, startOf, goOf, limitOf}
+use Rattle.initial.specs.declared.Initial.{Initial}
+use Rattle.initial.specs.Initial.{capOf, startOf, goOf, limitOf}
 
 -- numbers from an initial rise to where the initial says, and its cap is in range
 pub record Suits (initial : Initial) (way : Way) : Type 0 where

@@ -9,7 +9,7 @@ ghost use Rattle.engine.specs.AsModel.{AsModel};
 ghost use Rattle.until_start.specs.Lent.{Lent, OperandsBelow, Able, Besides};
 ghost use Rattle.until_start.specs.Risen.{Suits, Risen};
 ghost use Rattle.until_start.specs.FromOperands.{FromOperands, unhinderedUpTo};
-use fill::Initial;
+use initial::Initial;
 use rule::NodeWords;
 use ways::Climb;
 use ways::Way;
@@ -51,7 +51,7 @@ pub fn run_from(
         × Risen initial way (now (chart .entry)) n
         (mark n (now (marks .entry)) (node .a)) (mark n (now (marks .entry)) (node .b)) (now (numbers .exit)) ⌝ }
 {
-    fill::fill_numbers(initial, n, node.a, node.b, marks, numbers);
+    initial::fill_numbers(initial, n, node.a, node.b, marks, numbers);
     run(way, chart, n, m, t, marks, numbers);
 }
 

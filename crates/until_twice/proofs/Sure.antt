@@ -20,10 +20,10 @@ use Rattle.ways.specs.declared.Way.the-variants.{Lower}
 use Rattle.ways.specs.Way.{top, leftOver, ceilingOf, sideOf, beside}
 use Rattle.visits.specs.Moves.{Ready}
 use Rattle.engine.specs.AsModel.{AsModel}
-use Rattle.fill.specs.Fill.{placedOf}
-use Rattle.fill.specs.Written.{Filled}
-use Rattle.fill.proofs.Choice.{cond-le}
-use Rattle.fill.proofs.Sided.{Begun, filled-begun}
+use Rattle.initial.specs.Initial.{placedOf}
+use Rattle.initial.specs.Filled.{Filled}
+use Rattle.initial.proofs.Choice.{cond-le}
+use Rattle.initial.proofs.Sided.{Begun, filled-begun}
 use Rattle.until_twice.specs.Starts.{sureStart}
 use Rattle.until_start.proofs.Waits.{answers, left-at, at-least-left, left-tabulated}
 

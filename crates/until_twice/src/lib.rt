@@ -6,7 +6,7 @@ ghost use Rattle.chart.specs.Bytes.{chartOf};
 ghost use Rattle.until_start.specs.Lent.{Lent, OperandsBelow};
 ghost use Rattle.until_start.specs.FromOperands.{FromOperands, allMeet, allMeetPlain};
 ghost use Rattle.until_twice.specs.Starts.{Starts};
-use fill::Initial;
+use initial::Initial;
 use rule::NodeWords;
 use ways::Way;
 
@@ -34,8 +34,8 @@ fn sure_start(
     if fill::all_are(0, &marks[at..end]) {
         return false;
     }
-    fill::fill_numbers(Initial::Stay(node.c), n, node.a, node.b, marks, numbers);
-    fill::clear_unsure(chart, n, m, &marks[at..end], numbers);
+    initial::fill_numbers(Initial::Stay(node.c), n, node.a, node.b, marks, numbers);
+    initial::clear_unsure(chart, n, m, &marks[at..end], numbers);
     true
 }
 

@@ -6,8 +6,8 @@ use borrow.Author.Needs.{needs}
 use denote.Ref.{now}
 use Rattle.model.specs.Marks.{mark}
 use Rattle.engine.specs.AsModel.{minutesOf, settled}
-use Rattle.fill.specs.Fill.{startOf, goOf}
-use Rattle.fill.proofs.Sided.{Begun, initial-begun}
+use Rattle.initial.specs.Initial.{startOf, goOf}
+use Rattle.initial.proofs.Sided.{Begun, initial-begun}
 use Rattle.until_start.proofs.Lent.{rows-inside}
 use Rattle.until_start.proofs.run_from.Statement.{statement}
 use Rattle.until_start.proofs.run_from.Tie as tie

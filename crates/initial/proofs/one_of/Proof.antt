@@ -2,9 +2,9 @@
 use mathlib.Core.Path.{ap₂, _∙_}
 use mathlib.Core.Bool.{cond}
 use borrow.Author.Needs.{needs}
-use Rattle.fill.specs.Fill.{oneOf}
-use Rattle.fill.proofs.one_of.Statement.{statement}
-use Rattle.fill.proofs.one_of.Tie as tie
+use Rattle.initial.specs.Initial.{oneOf}
+use Rattle.initial.proofs.one_of.Statement.{statement}
+use Rattle.initial.proofs.one_of.Tie as tie
 
 returns : tie.Need-returns
 unfolding oneOf

@@ -1,9 +1,9 @@
 -- Where good holds everywhere, the numbers are cleared as they are.
 use borrow.Author.Needs.{needs}
 use denote.Ref.{now}
-use Rattle.fill.proofs.Cleared.{sured-all}
-use Rattle.fill.proofs.clear_unsure.Statement.{statement}
-use Rattle.fill.proofs.clear_unsure.Tie as tie
+use Rattle.initial.proofs.Cleared.{sured-all}
+use Rattle.initial.proofs.clear_unsure.Statement.{statement}
+use Rattle.initial.proofs.clear_unsure.Tie as tie
 
 -- the start
 abbrev start : tie.After-all-are → tie.Start

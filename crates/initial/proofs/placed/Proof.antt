@@ -4,9 +4,9 @@ use Prim.Native.Nat.{_+_, _≤_}
 use native.Mathlib.Omega.{arith}
 use borrow.Author.Needs.{needs}
 use Rattle.hints.specs.Values.{radix}
-use Rattle.fill.proofs.Choice.{either-le}
-use Rattle.fill.proofs.placed.Statement.{statement}
-use Rattle.fill.proofs.placed.Tie as tie
+use Rattle.initial.proofs.Choice.{either-le}
+use Rattle.initial.proofs.placed.Statement.{statement}
+use Rattle.initial.proofs.placed.Tie as tie
 
 low : (c : tie.After-either) → c .either .result ≤ radix
 low c = either-le (c .either .ensures) (omega arith) (omega arith)

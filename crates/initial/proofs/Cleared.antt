@@ -24,8 +24,8 @@ use Rattle.chart.specs.Shape.{Passed}
 use Rattle.chart.proofs.Reading.{drawn, has-states}
 use Rattle.hints.specs.Values.{testedOf}
 use Rattle.ways.specs.Way.{top, beside}
-use Rattle.fill.specs.Fill.{Chosen}
-use Rattle.fill.specs.Written.{Sured}
+use Rattle.initial.specs.Initial.{Chosen}
+use Rattle.initial.specs.Filled.{Sured}
 
 -- the first i arrows of a chart's bytes
 abbrev firstArrows : List ℕ → ℕ → List Arrow

@@ -7,10 +7,10 @@ use borrow.Author.Count.{below-none}
 use Rattle.model.specs.Engine.{num}
 use Rattle.model.specs.Marks.{mark}
 use Rattle.hints.specs.Values.{sided, testedOf}
-use Rattle.fill.specs.Fill.{oneOf}
+use Rattle.initial.specs.Initial.{oneOf}
 use Rattle.fill.proofs.Written.{set-more}
-use Rattle.fill.proofs.fill_numbers.Statement.{statement}
-use Rattle.fill.proofs.fill_numbers.Tie as tie
+use Rattle.initial.proofs.fill_numbers.Statement.{statement}
+use Rattle.initial.proofs.fill_numbers.Tie as tie
 
 abbrev Inv-loop : tie.InvT-loop
 Inv-loop n a b marks numbers₀ left right four s₀ numbers s =

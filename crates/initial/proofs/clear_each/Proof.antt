@@ -5,9 +5,9 @@ use mir.Syntax.{w64}
 use mir.Val.{Fits}
 use lib.ListN.{length}
 use Rattle.chart.proofs.Reading.{shaped, counted}
-use Rattle.fill.proofs.Cleared.{Cleared, cleared-none, cleared-more, cleared-all, cleared-sured, chosen}
-use Rattle.fill.proofs.clear_each.Statement.{statement}
-use Rattle.fill.proofs.clear_each.Tie as tie
+use Rattle.initial.proofs.Cleared.{Cleared, cleared-none, cleared-more, cleared-all, cleared-sured, chosen}
+use Rattle.initial.proofs.clear_each.Statement.{statement}
+use Rattle.initial.proofs.clear_each.Tie as tie
 
 abbrev Inv-loop : tie.InvT-loop
 Inv-loop chart n m good numbers₀ i₀ numbers i = (i ≤ m) × Cleared chart good i numbers₀ numbers

@@ -3,7 +3,7 @@ use mathlib.Core.Path.{_≡_, sym, ap, subst, _∙_}
 use mathlib.Core.Bool.{Bool, cond}
 use Prim.Native.Nat.{ℕ, _≤_}
 use Rattle.base.proofs.Truth.{cond-elim}
-use Rattle.fill.specs.Fill.{Chosen, Placed, placedOf}
+use Rattle.initial.specs.Initial.{Chosen, Placed, placedOf}
 
 -- a choice of two is up to what both are up to
 pub cond-le : (b : Bool) {x y limit : ℕ} → x ≤ limit → y ≤ limit → cond b x y ≤ limit

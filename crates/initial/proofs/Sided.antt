@@ -1,6 +1,6 @@
 -- Numbers filled with values and their sides: they are ready for the engine, and those are their values.
 use mathlib.Core.Path.{_≡_, sym, ap, _∙_}
-use mathlib.Core.Bool.{Bool, true, false, _||_}
+use mathlib.Core.Bool.{Bool, _||_}
 use mathlib.Core.List.{List}
 use Prim.Native.Nat.{ℕ, _≤_, _<_}
 use native.Mathlib.Omega.{arith}
@@ -8,17 +8,17 @@ use Rattle.base.specs.Tabulate.{tabulate}
 use Rattle.base.proofs.Tabulate.{tabulate-ext}
 use Rattle.model.specs.Engine.{num}
 use Rattle.model.proofs.Numbers.{tabulate-numbers}
-use Rattle.hints.specs.Values.{valueOf, testedOf, values}
+use Rattle.hints.specs.Values.{valueOf, values}
 use Rattle.hints.proofs.Values.{value-at, values-length}
 use Rattle.ways.specs.declared.Way.{Way}
 use Rattle.ways.specs.Way.{highest, top, ceilingOf, sideOf, beside}
 use Rattle.visits.specs.Moves.{Ready}
-use Rattle.fill.specs.declared.Initial.{Initial}
-use Rattle.fill.specs.declared.Initial.the-variants.{Reach, Goal, Fail, Stay}
-use Rattle.fill.specs.Fill.{capOf, startOf, goOf, limitOf, initialOf, placedOf}
-use Rattle.fill.specs.Written.{Filled}
+use Rattle.initial.specs.declared.Initial.{Initial}
+use Rattle.initial.specs.declared.Initial.the-variants.{Reach, Goal, Fail, Stay}
+use Rattle.initial.specs.Initial.{capOf, startOf, goOf, limitOf, initialOf, placedOf}
+use Rattle.initial.specs.Filled.{Filled}
 use Rattle.ways.proofs.Reaching.{beside-value}
-use Rattle.fill.proofs.Choice.{cond-le}
+use Rattle.initial.proofs.Choice.{cond-le}
 
 -- numbers with the values v: through go they are ready
 pub record Begun (way : Way) (go : ℕ → Bool) (n : ℕ) (v : ℕ → ℕ) (ns : List ℕ) : Type 0 where

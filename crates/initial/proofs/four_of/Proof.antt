@@ -1,11 +1,11 @@
 -- Any two marks are one of the four cases.
 use mathlib.Core.Bool.{Bool, true, false}
 use borrow.Author.Needs.{needs}
-use Rattle.fill.specs.declared.Initial.{Initial}
-use Rattle.fill.specs.declared.Four.{Four}
-use Rattle.fill.specs.Fill.{Initially, oneOf, Foreseen}
-use Rattle.fill.proofs.four_of.Statement.{statement}
-use Rattle.fill.proofs.four_of.Tie as tie
+use Rattle.initial.specs.declared.Initial.{Initial}
+use Rattle.initial.specs.declared.Four.{Four}
+use Rattle.initial.specs.Initial.{Initially, oneOf, Foreseen}
+use Rattle.initial.proofs.four_of.Statement.{statement}
+use Rattle.initial.proofs.four_of.Tie as tie
 
 foreseen :
     {initial : Initial} {four : Four} → Initially initial false false (four .neither) → Initially initial true false (four .first) →

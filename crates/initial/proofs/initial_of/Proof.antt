@@ -4,10 +4,10 @@ use Prim.Native.Nat.{_≤_}
 use native.Mathlib.Omega.{arith}
 use borrow.Author.Needs.{needs}
 use Rattle.ways.specs.Way.{highest}
-use Rattle.fill.specs.Fill.{capOf}
-use Rattle.fill.proofs.Choice.{either-le, placed-as}
-use Rattle.fill.proofs.initial_of.Statement.{statement}
-use Rattle.fill.proofs.initial_of.Tie as tie
+use Rattle.initial.specs.Initial.{capOf}
+use Rattle.initial.proofs.Choice.{either-le, placed-as}
+use Rattle.initial.proofs.initial_of.Statement.{statement}
+use Rattle.initial.proofs.initial_of.Tie as tie
 
 -- the stops: where each initial is told, and the start
 abbrev told1 : tie.After-either → tie.After-initial
