@@ -4,12 +4,12 @@ ghost use mathlib.Core.List.{[], _∷_};
 ghost use Prim.Native.Nat.{_+_, _*_, _≤_};
 ghost use lib.ListN.{length};
 ghost use Rattle.outcome.specs.Refusal.{first};
-ghost use Rattle.chart.specs.Refusals.{chartRefusal};
 ghost use Rattle.chart.specs.Bytes.{arrowCount, arrowOf};
+ghost use Rattle.chart.specs.Refusals.{chartRefusal};
 ghost use Rattle.chart.specs.Shape.{Small, Passed};
 ghost use Rattle.map.specs.Bytes.{entry};
-ghost use Rattle.call_map.specs.Refusals.{mapTable, overviewTable, mapRefusal};
 ghost use Rattle.cover.specs.Covered.{mappedArrow};
+ghost use Rattle.call_map.specs.Refusals.{mapTable, overviewTable, mapRefusal};
 ghost use Rattle.call_map.specs.Rows.{Sized, Named, Mapping, labelRow, coverRow, lastRows, mappedRows};
 use chart::ArrowWords;
 use outcome::Outcome;
@@ -69,13 +69,8 @@ fn cover_refusal(detail: &[u8], lower: Sizes, overview: &[u8], upper: Sizes, map
     let mut near = 0;
     while i < lower.arrows {
         let a = chart::arrow_at(detail, lower.states, i);
-        near = cover::covering_arrow(
-            overview,
-            upper.states,
-            upper.arrows,
-            near,
-            mapped_arrow(map, a),
-        );
+        let want = mapped_arrow(map, a);
+        near = cover::covering_arrow(overview, upper.states, upper.arrows, near, want);
         if upper.arrows <= near {
             return outcome::refused(outcome::NOT_COVERED, i as u32);
         }

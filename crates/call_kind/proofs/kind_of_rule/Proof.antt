@@ -58,7 +58,7 @@ returns-2 c =
     let some = c .before in
     let all = some .before in
     let e = ap (λ k. formulaAt (s (past all)) (k - 1)) (all .before .node-count .ensures .0) in
-    answered (s (past all)) (tested (past all) .rule-refusal .ensures) (past all .if1 .left)
+    answered _ (tested (past all) .rule-refusal .ensures) (past all .if1 .left)
     (all .all-runs .ensures ∙ ap (isOf allRuns) e) (some .some-run .ensures ∙ ap (isOf someRun) e)
     (c .kind-for .ensures)
 

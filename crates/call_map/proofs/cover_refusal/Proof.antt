@@ -51,9 +51,8 @@ told :
     ltb (c .covering-arrow .result) (a .upper .arrows) ≡ b →
     not (coveredAt (now (a .detail)) (now (a .overview)) (now (a .map)) (at-loop c .loop .i)) ≡ not b
 told c g =
-    let a = start (at-loop c) .args in
-    covered-read (now (a .detail)) (now (a .overview)) (now (a .map)) (at-loop c .loop .i)
-    (read c .arrow-at .ensures .0) (c .before .mapped-arrow .ensures .0) (c .covering-arrow .ensures .1) (ap not g)
+    covered-read _ _ (now (start (at-loop c) .args .map)) _ (read c .arrow-at .ensures .0)
+    (c .before .mapped-arrow .ensures .0) (c .covering-arrow .ensures .1) (ap not g)
 
 loop-holds : tie.Need-loop-holds Inv-loop μ-loop
 loop-holds c = (omega arith, omega arith, below-none _)

@@ -1,11 +1,8 @@
 -- Row 22, then row 23.
 use mathlib.Core.Path.{subst}
-use mathlib.Core.List.{[], _∷_}
-use denote.Ref.{now}
 use Rattle.outcome.proofs.First.{part-refuses, part-passes}
 use Rattle.chart.specs.Shape.{Passed}
 use Rattle.map.specs.Shape.{Mapped}
-use Rattle.call_map.specs.Rows.{labelRow, coverRow}
 use Rattle.call_map.proofs.last_refusal.Statement.{statement}
 use Rattle.call_map.proofs.last_refusal.Tie as tie
 
@@ -30,12 +27,7 @@ cover-refusal-requires c κs = start (labelled c .before) .pre
 returns-2 : tie.Need-returns-2
 returns-2 c =
     let passed = c .before in
-    let a = start (labelled passed .before) .args in
-    let d = now (a .detail) in
-    let o = now (a .overview) in
-    let p = now (a .map) in
-    part-passes (labelRow d o p ∷ []) (coverRow d o p ∷ []) tt (labelled passed .label-refusal .ensures)
-    (passed .if1 .left) (c .cover-refusal .ensures)
+    part-passes _ _ tt (labelled passed .label-refusal .ensures) (passed .if1 .left) (c .cover-refusal .ensures)
 
 pub last-refusal-spec : {M : Type 1} → statement M
 last-refusal-spec = tie.close (tie.spec label-refusal-requires returns cover-refusal-requires returns-2)

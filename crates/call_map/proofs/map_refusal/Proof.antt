@@ -1,12 +1,11 @@
 -- Row 20, then the others.
 use borrow.Author.Needs.{needs}
-use denote.Ref.{now}
 use Rattle.map.proofs.Passed.{map-whole}
 use Rattle.call_map.proofs.Chain.{form-stops, mapped-next}
 use Rattle.call_map.proofs.map_refusal.Statement.{statement}
 use Rattle.call_map.proofs.map_refusal.Tie as tie
 
--- from where row 20 was tested: the sizes of the overview and of the detail, and the start
+-- from where row 20 was tested: the sizes of the overview and of the detail
 module _ (c : tie.After-form-refusal) where
   abbrev upper : tie.After-sizes-of2
   upper = c .before
@@ -14,16 +13,11 @@ module _ (c : tie.After-form-refusal) where
   abbrev lower : tie.After-sizes-of
   lower = upper .before
 
-  abbrev start : tie.Start
-  start = lower .before .before .before .before
-
 returns : tie.Need-returns
 returns c =
     let tested = c .before in
     let formed = tested .before in
-    let a = start formed .args in
-    form-stops (now (a .detail)) (now (a .overview)) (now (a .map)) (lower formed .sizes-of .ensures .states)
-    (formed .form-refusal .ensures) (c .if1 .taken)
+    form-stops _ _ _ (lower formed .sizes-of .ensures .states) (formed .form-refusal .ensures) (c .if1 .taken)
 
 mapped-refusal-requires : tie.Need-mapped-refusal-requires
 mapped-refusal-requires c κs =
@@ -37,9 +31,8 @@ returns-2 c =
     let passed = c .before in
     let tested = passed .before in
     let formed = tested .before in
-    let a = start formed .args in
-    mapped-next (now (a .detail)) (now (a .overview)) (now (a .map)) (lower formed .sizes-of .ensures .states)
-    (formed .form-refusal .ensures) (passed .if1 .left) (c .mapped-refusal .ensures)
+    mapped-next _ _ _ (lower formed .sizes-of .ensures .states) (formed .form-refusal .ensures) (passed .if1 .left)
+    (c .mapped-refusal .ensures)
 
 pub map-refusal-spec : {M : Type 1} → statement M
 map-refusal-spec =

@@ -8,7 +8,6 @@ use Rattle.chart.specs.Bytes.{stateCount}
 use Rattle.chart.proofs.Reading.{shaped}
 use Rattle.map.specs.Refusals.{entryRow}
 use Rattle.map.proofs.Passed.{mapped}
-use Rattle.call_map.specs.Rows.{lastRows}
 use Rattle.call_map.proofs.mapped_refusal.Statement.{statement}
 use Rattle.call_map.proofs.mapped_refusal.Tie as tie
 
@@ -41,20 +40,13 @@ returns c = part-refuses _ _ (row (entered (c .before))) (c .if1 .taken)
 last-refusal-requires : tie.Need-last-refusal-requires
 last-refusal-requires c κs =
     let tested = entered (c .before) in
-    let s = start (tested .before) in
-    let p = s .pre in
-    (p .0, p .1, mapped (now (s .args .map)) _ (p .2) (tested .entry-refusal .ensures) (c .if1 .left))
+    let p = start (tested .before) .pre in
+    (p .0, p .1, mapped _ _ (p .2) (tested .entry-refusal .ensures) (c .if1 .left))
 
 returns-2 : tie.Need-returns-2
 returns-2 c =
     let passed = c .before in
-    let tested = entered (passed .before) in
-    let a = start (tested .before) .args in
-    let d = now (a .detail) in
-    let o = now (a .overview) in
-    let p = now (a .map) in
-    part-passes (entryRow p (stateCount d) (stateCount o) ∷ []) (lastRows d o p) tt (row tested) (passed .if1 .left)
-    (c .last-refusal .ensures)
+    part-passes _ _ tt (row (entered (passed .before))) (passed .if1 .left) (c .last-refusal .ensures)
 
 pub mapped-refusal-spec : {M : Type 1} → statement M
 mapped-refusal-spec = tie.close (tie.spec entry-refusal-requires returns last-refusal-requires returns-2)

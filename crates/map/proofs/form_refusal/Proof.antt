@@ -23,8 +23,7 @@ returns : tie.Need-returns
 returns c =
     let met = c .before in
     let tested = head (met .before) in
-    let wrong = unheaded _ (start tested .args .n) (tested .head-refusal .ensures) (met .if1 .taken) in
-    form-refuses _ _ wrong (c .refused .ensures)
+    form-refuses _ _ (unheaded _ _ (tested .head-refusal .ensures) (met .if1 .taken)) (c .refused .ensures)
 
 be16-requires : tie.Need-be16-requires
 be16-requires c κs =
@@ -50,11 +49,10 @@ returns-4 c =
     let sized = counted .before in
     let headed = read sized .before in
     let tested = head (headed .before) in
-    let n = start tested .args .n in
-    let count = read sized .be16 .ensures .0 in
     let form =
-    formed _ n (tested .head-refusal .ensures) (headed .if1 .left) count (sized .if2 .left) (counted .if3 .left) in
-    form-passes _ n form (c .accepted .ensures)
+    formed _ _ (tested .head-refusal .ensures) (headed .if1 .left) (read sized .be16 .ensures .0) (sized .if2 .left)
+    (counted .if3 .left) in
+    form-passes _ _ form (c .accepted .ensures)
 
 pub form-refusal-spec : {M : Type 1} → statement M
 form-refusal-spec =
