@@ -1,4 +1,4 @@
--- `reader::hand_out` meets its contract: step by step, by hand. The reader that `new` makes is held in a local,
+-- `call_reader::hand_out` meets its contract: step by step, by hand. The reader that `new` makes is held in a local,
 -- where its lifetime has no name, and passed on to `peek` (`Calls.antt`).
 use mathlib.Core.Path.{refl}
 use Prim.Native.Nat.{ℕ, _<_, _^_}

@@ -1,4 +1,4 @@
--- `reader::new` meets its contract: step by step, by hand. A reader is made of the slice and the number passed.
+-- `call_reader::new` meets its contract: step by step, by hand. A reader is made of the slice and the number passed.
 -- They are Copy: what they own is had twice, once for the parameters at exit and once inside the result.
 use mathlib.Core.Path.{refl}
 use Prim.Native.Nat.{ℕ, _<_, _^_}

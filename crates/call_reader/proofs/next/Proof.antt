@@ -1,4 +1,4 @@
--- `reader::next` meets its contract: step by step, by hand. The outer borrow is opened, `step` is called on the
+-- `call_reader::next` meets its contract: step by step, by hand. The outer borrow is opened, `step` is called on the
 -- slice and the number behind it (`Held.antt`), its number is stored, and the borrow is closed at the new record.
 use mathlib.Core.Path.{_≡_, refl, ap}
 use Prim.Native.Nat.{ℕ, _<_, _^_}

@@ -1,4 +1,4 @@
--- `reader::peek` meets its contract: step by step, by hand. The reader is taken apart, and `step` is called on its
+-- `call_reader::peek` meets its contract: step by step, by hand. The reader is taken apart, and `step` is called on its
 -- slice and its number (`Held.antt`). What the answer hands out is the result.
 use mathlib.Core.Path.{_≡_, refl, ap}
 use mathlib.Core.List.{[], _∷_}

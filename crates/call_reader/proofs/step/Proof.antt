@@ -1,4 +1,4 @@
--- `reader::step` meets its contract: past the first test the chart passes checks 1 to 9, and the second says whether an
+-- `call_reader::step` meets its contract: past the first test the chart passes checks 1 to 9, and the second says whether an
 -- arrow has the number.
 use mathlib.Core.Path.{_≡_, sym, ap, _∙_}
 use mathlib.Core.List.{List}

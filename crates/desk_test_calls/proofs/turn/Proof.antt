@@ -1,4 +1,4 @@
--- `rattle_calls::turn` meets its contract: step by step, by hand. The reader that `new` makes is held in a local, lent
+-- `desk_test_calls::turn` meets its contract: step by step, by hand. The reader that `new` makes is held in a local, lent
 -- to `next` and taken back moved on (`Lent.antt`), and passed on to `peek` (`Calls.antt` of the reader).
 use mathlib.Core.Path.{_≡_, refl, ap}
 use Prim.Native.Nat.{ℕ, _<_, _^_}
@@ -60,7 +60,7 @@ use Rattle.desk_test_calls.specs.declared.Turned.{Turned}
 use Rattle.desk_test_calls.proofs.Turned as S
 use Rattle.desk_test_calls.proofs.Turned.Laws as S′
 use Rattle.desk_test_calls.proofs.Lent.{R, Next, to, Lent, lends, Back, comes-back}
-use Rattle.desk_test_calls.proofs.turn.Key.{name as #rattle_calls·turn}
+use Rattle.desk_test_calls.proofs.turn.Key.{name as #desk_test_calls·turn}
 use Rattle.desk_test_calls.proofs.turn as turn
 use Rattle.desk_test_calls.proofs.turn.Statement as stated
 use Rattle.desk_test_calls.proofs.turn.Code as code
@@ -226,7 +226,7 @@ pub turn-spec : {M : Type 1} → stated.statement M
 unfolding code.routine tablesOf
 turn-spec 𝓤 H 𝓜 𝓖 𝓡 =
     entered 𝓤 H (tripleOf 𝓤 H (𝓖 .A) turn.signature (turn.spec 𝓤 H (𝓖 .A) (𝓜 .mem) (𝓡 .run)))
-    (tables 𝓤 H 𝓜 𝓡 code.env .C) (tables 𝓤 H 𝓜 𝓡 code.env .Λ) #rattle_calls·turn code.function (code.unfolded 𝓤 H 𝓜 𝓡)
+    (tables 𝓤 H 𝓜 𝓡 code.env .C) (tables 𝓤 H 𝓜 𝓡 code.env .Λ) #desk_test_calls·turn code.function (code.unfolded 𝓤 H 𝓜 𝓡)
     (turn-meets 𝓤 H (𝓖 .A) (givenOf 𝓤 H 𝓜 𝓖) (𝓜 .mem) (𝓡 .run) (tablesOf 𝓤 H 𝓜 (tables 𝓤 H 𝓜 𝓡 code.env))
     (cited 𝓤 H (New 𝓤 H (𝓖 .A) (𝓜 .mem) (𝓡 .run)) 𝓜 𝓡 code.env #reader·new new-def.routine
     code.calls-call-reader·new (new-thm.met 𝓤 H 𝓜 𝓖 𝓡))

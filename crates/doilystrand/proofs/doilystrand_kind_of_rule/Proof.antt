@@ -9,6 +9,10 @@ use Rattle.doilystrand.specs.Coded.{code}
 use Rattle.doilystrand.proofs.doilystrand_kind_of_rule.Statement.{statement}
 use Rattle.doilystrand.proofs.doilystrand_kind_of_rule.Tie as tie
 
+-- the stop where the kind was answered
+abbrev answer : tie.After-code-of → tie.After-kind-of-rule
+answer c = c .before .before
+
 -- a kind is the one of the kinds that it says
 said : (k : Kind) → k ≡ kindFor (says k allRuns) (says k someRun)
 said AllRuns = refl
@@ -18,8 +22,8 @@ said Neither = refl
 
 returns : tie.Need-returns
 returns c =
-    let answered = c .before .before .kind-of-rule .ensures in
-    let kind = c .before .before .kind-of-rule .result .kind in
+    let answered = answer c .kind-of-rule .ensures in
+    let kind = answer c .kind-of-rule .result .kind in
     record {
       outcome = answered .outcome;
       kind = c .code-of .ensures ∙ ap code (said kind ∙ ap₂ kindFor (answered .kind allRuns) (answered .kind someRun));
