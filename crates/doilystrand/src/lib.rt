@@ -1,36 +1,16 @@
 // The open calls for C and Rust, with the promises that they have themselves. What C has no form for crosses as
-// numbers: the kind of a rule, the place of a row instead of the part itself, and what the chart reader hands out.
+// numbers (`coded`), and of a row its place instead of the part itself.
 ghost use mathlib.Core.Path.{_≡_};
 ghost use Rattle.call_row.specs.Row.{placeOf};
 ghost use Rattle.call_map.specs.Refusals.{mapRefusal};
 ghost use Rattle.call_check.specs.Check.{Checked};
 ghost use Rattle.call_reader.specs.Reading.{handed};
-ghost use Rattle.call_reader.specs.declared.Handed.the-variants.{Arrow, Finished};
-ghost use Rattle.doilystrand.specs.Coded.{code, Coded, sizeOf, codedArrow};
-use call_kind::Kind;
+ghost use Rattle.coded.specs.Coded.{Coded, sizeOf, codedArrow};
 use call_reader::Handed;
 use call_row::Place;
-use chart::ArrowWords;
+use coded::CodedAnswer;
+use coded::CodedArrow;
 use outcome::Outcome;
-
-// What kind of rule answers, with the kind as its code.
-#[repr(C)]
-pub struct CodedAnswer {
-    pub outcome: Outcome,
-    pub kind: u32,
-}
-
-// The code of a kind.
-fn code_of(kind: Kind) -> u32
-    ensures { λ r. ⌜ r ≡ code kind ⌝ }
-{
-    match kind {
-        Kind::Neither => 0,
-        Kind::AllRuns => 1,
-        Kind::SomeRun => 2,
-        Kind::Both => 3,
-    }
-}
 
 #[no_mangle]
 pub extern "C" fn doilystrand_check(
@@ -52,7 +32,7 @@ pub extern "C" fn doilystrand_kind_of_rule(rule: &[u8]) -> CodedAnswer
     let answer = call_kind::kind_of_rule(rule);
     let outcome = answer.outcome;
     let kind = answer.kind;
-    let kind = code_of(kind);
+    let kind = coded::code_of(kind);
     CodedAnswer { outcome, kind }
 }
 
@@ -81,47 +61,13 @@ pub extern "C" fn doilystrand_row(
     call_row::row_place(overview, n, t)
 }
 
-// What the chart reader hands out: found is 1 with an arrow's words, and 0 with zeros where it is finished.
-#[repr(C)]
-pub struct CodedArrow {
-    pub found: u32,
-    pub start: usize,
-    pub end: usize,
-    pub fewest: u32,
-    pub most: u32,
-}
-
-fn coded_words(a: ArrowWords) -> CodedArrow
-    ensures { λ r. ⌜ r ≡ codedArrow (Arrow a) ⌝ }
-{
-    CodedArrow {
-        found: 1,
-        start: a.start,
-        end: a.end,
-        fewest: a.fewest,
-        most: a.most,
-    }
-}
-
-fn coded_end() -> CodedArrow
-    ensures { λ r. ⌜ r ≡ codedArrow Finished ⌝ }
-{
-    CodedArrow {
-        found: 0,
-        start: 0,
-        end: 0,
-        fewest: 0,
-        most: 0,
-    }
-}
-
 // What a chart reader of these bytes at this number hands out.
 #[no_mangle]
 pub extern "C" fn doilystrand_arrow(chart: &[u8], number: usize) -> CodedArrow
     ensures { λ r. ⌜ r ≡ codedArrow (handed (now (chart .entry)) number) ⌝ }
 {
     match call_reader::hand_out(chart, number) {
-        Handed::Arrow(a) => coded_words(a),
-        Handed::Finished => coded_end(),
+        Handed::Arrow(a) => coded::coded_words(a),
+        Handed::Finished => coded::coded_end(),
     }
 }

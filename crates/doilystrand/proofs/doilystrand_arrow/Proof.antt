@@ -1,7 +1,7 @@
 -- Each arm is told which case the reader answered.
 use mathlib.Core.Path.{sym, ap, _∙_}
 use borrow.Author.Needs.{needs}
-use Rattle.doilystrand.specs.Coded.{codedArrow}
+use Rattle.coded.specs.Coded.{codedArrow}
 use Rattle.doilystrand.proofs.doilystrand_arrow.Statement.{statement}
 use Rattle.doilystrand.proofs.doilystrand_arrow.Tie as tie
 

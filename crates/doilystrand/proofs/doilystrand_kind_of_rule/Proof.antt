@@ -5,7 +5,7 @@ use Rattle.tctl.specs.Kind.{allRuns, someRun}
 use Rattle.call_kind.specs.declared.Kind.{Kind}
 use Rattle.call_kind.specs.declared.Kind.the-variants.{AllRuns, SomeRun, Both, Neither}
 use Rattle.call_kind.specs.Kind.{says, kindFor}
-use Rattle.doilystrand.specs.Coded.{code}
+use Rattle.coded.specs.Coded.{code}
 use Rattle.doilystrand.proofs.doilystrand_kind_of_rule.Statement.{statement}
 use Rattle.doilystrand.proofs.doilystrand_kind_of_rule.Tie as tie
 

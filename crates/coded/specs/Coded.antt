@@ -10,8 +10,8 @@ use Rattle.call_kind.specs.declared.Kind.the-variants.{AllRuns, SomeRun, Both, 
 use Rattle.call_kind.specs.Kind.{kindFor, ruleIs}
 use Rattle.call_reader.specs.declared.Handed.{Handed}
 use Rattle.call_reader.specs.declared.Handed.the-variants.{Arrow, Finished}
-use Rattle.doilystrand.specs.declared.CodedAnswer.{CodedAnswer}
-use Rattle.doilystrand.specs.declared.CodedArrow.{CodedArrow}
+use Rattle.coded.specs.declared.CodedAnswer.{CodedAnswer}
+use Rattle.coded.specs.declared.CodedArrow.{CodedArrow}
 
 -- "all-runs, some-run, both or neither", as a number
 abbrev pub code : Kind → ℕ

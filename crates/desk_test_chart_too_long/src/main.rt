@@ -1,4 +1,0 @@
-// The desk program, on a chart of one byte more than the longest.
-fn main() {
-    desk_call::run();
-}

@@ -1,4 +1,0 @@
-// The desk program, on a chart whose state 2 no arrow leaves.
-fn main() {
-    desk_call::run();
-}
