@@ -14,7 +14,7 @@ use Rattle.chart.specs.Refusals.{chartRefusal}
 use Rattle.chart.specs.declared.ArrowWords.{ArrowWords}
 use Rattle.call_reader.specs.declared.Handed.{Handed}
 use Rattle.call_reader.specs.declared.Handed.the-variants.{Arrow, Finished}
-use Rattle.call_reader.specs.Reading.{arrowsIn, entryAt, handed, numberAfter, answers, InOrder}
+use Rattle.call_reader.specs.Reading.{arrowsIn, entryAt, handed, numberAfter, answersOf, InOrder}
 
 -- ── Of a list of arrows ──
 
@@ -91,8 +91,8 @@ module _ (s : List ℕ) where
 
   -- By induction on k. The first call answers what stands at i. If that is an arrow, the others start from
   -- i + 1. If it is finished, they start from i again, and finished is all that stands at i and at later numbers.
-  answers-from : (i k : ℕ) → answers k s i ≡ tabulate k (λ j. handed s (i + j))
-  unfolding answers tabulate
+  answers-from : (i k : ℕ) → answersOf k s i ≡ tabulate k (λ j. handed s (i + j))
+  unfolding answersOf tabulate
   answers-from i zero = refl
   answers-from i (suc k) =
       ap (λ l. handed s i ∷ l) (answers-from (numberAfter (handed s i) i) k) ∙

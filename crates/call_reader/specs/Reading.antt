@@ -42,10 +42,10 @@ abbrev pub moved : ChartReader → ChartReader
 moved r = record { chart = r .chart; number = stepOf (now (r .chart)) (r .number) .number }
 
 -- what so many calls answer, one after another, of a reader of these bytes at this number
-unfoldable pub answers : ℕ → List ℕ → ℕ → List Handed
-answers zero s i = []
-answers (suc k) s i = handed s i ∷ answers k s (stepOf s i .number)
+unfoldable pub answersOf : ℕ → List ℕ → ℕ → List Handed
+answersOf zero s i = []
+answersOf (suc k) s i = handed s i ∷ answersOf k s (stepOf s i .number)
 
 -- "in order from that number", then "finished": call j, counted from 0, answers what stands j past that number
 abbrev pub InOrder : Type 0
-InOrder = (s : List ℕ) (i k : ℕ) → answers k s i ≡ tabulate k (λ j. handed s (i + j))
+InOrder = (s : List ℕ) (i k : ℕ) → answersOf k s i ≡ tabulate k (λ j. handed s (i + j))

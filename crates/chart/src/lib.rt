@@ -34,11 +34,14 @@ pub fn label_word(chart: &[u8], s: usize) -> u32
     words::be16(chart, 9 + 2 * s)
 }
 
+// The word that says "no end".
+pub const NO_END: u32 = 65535;
+
 // The word most says "no end".
 pub fn no_end(most: u32) -> bool
     ensures { λ r. ⌜ r ≡ isNoEnd most ⌝ }
 {
-    most == 65535
+    most == NO_END
 }
 
 // Arrow i of a chart with n states.

@@ -48,7 +48,7 @@ fn names_no_state(n: usize, a: ArrowWords) -> bool
 fn empty_slot(a: ArrowWords) -> bool
     ensures { λ r. ⌜ r ≡ emptySlot a ⌝ }
 {
-    a.most < a.fewest || a.fewest == 65535
+    a.most < a.fewest || a.fewest == chart::NO_END
 }
 
 // Row 8 of the arrows up to arrow i, from that of the arrows before it.

@@ -35,7 +35,7 @@ use Rattle.room.specs.Room.{scratchSize}
 use Rattle.call_check.specs.Check.{checkRefusal}
 use Rattle.claim_demands.proofs.Check.{check-accepts}
 use Rattle.claim_items.specs.Items.{Item, items}
-use Rattle.claim_items.specs.Right.{Right}
+use Rattle.claim_items.specs.ItemRight.{ItemRight}
 
 -- chart and rule are accepted, there is a mark for each state, and each is 1 just where the engine says yes
 passes : Item → Bool
@@ -66,7 +66,7 @@ rule-number : (s : List ℕ) → ruleRefusal s .number ≡ 0 → ruleRefusal s �
 unfolding ruleTable
 rule-number s z = success-iff (ruleTable s) tt .1 (zero-iff (ruleTable s) tt .0 z)
 
-right : (it : Item) → passes it ≡ true → Right it
+right : (it : Item) → passes it ≡ true → ItemRight it
 unfolding passes
 right it ok =
     let G = chartOf (it .chart) in
@@ -91,7 +91,7 @@ right it ok =
     }
 
 -- every item of the list is right
-pub items-right : (it : Item) → List·Memᴰ it items → Right it
+pub items-right : (it : Item) → List·Memᴰ it items → ItemRight it
 items-right it m = right it (every-true passes items all-pass m)
 
 -- "Ruled out: a checker that refuses every chart (items 1 to 13 are accepted ..)": wherever there is room

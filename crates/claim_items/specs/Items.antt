@@ -1,19 +1,19 @@
 -- The thirteen items of 01, "Two charts to try".
 use mathlib.Core.List.{List, [], _∷_, _++_}
 use Prim.Native.Nat.{ℕ}
-use Rattle.claim_items.specs.Write.{word, arrow, chart, node, rule}
+use Rattle.claim_items.specs.Write.{wordBytes, arrow, chart, node, rule}
 
 -- "Short: states 0, 1, 2 with labels 0, 1, 2; arrows 0→1 of 5 to 10, 1→2 of 0 to 4, 2→0 of 20 to no end."
 abbrev pub short : List ℕ
-short = chart 3 3 (word 1 ++ word 2 ++ word 4) (arrow 0 1 5 10 ++ arrow 1 2 0 4 ++ arrow 2 0 20 65535)
+short = chart 3 3 (wordBytes 1 ++ wordBytes 2 ++ wordBytes 4) (arrow 0 1 5 10 ++ arrow 1 2 0 4 ++ arrow 2 0 20 65535)
 
 -- "Undo: Short with 1→0 of 1 to 1 added."
 abbrev pub undo : List ℕ
-undo = chart 3 4 (word 1 ++ word 2 ++ word 4) (arrow 0 1 5 10 ++ arrow 1 2 0 4 ++ arrow 2 0 20 65535 ++ arrow 1 0 1 1)
+undo = chart 3 4 (wordBytes 1 ++ wordBytes 2 ++ wordBytes 4) (arrow 0 1 5 10 ++ arrow 1 2 0 4 ++ arrow 2 0 20 65535 ++ arrow 1 0 1 1)
 
 -- "One: a state without labels, arrow 0→0 of 1 to 1."
 abbrev pub one : List ℕ
-one = chart 1 1 (word 0) (arrow 0 0 1 1)
+one = chart 1 1 (wordBytes 0) (arrow 0 0 1 1)
 
 -- "5 E(a until b); 6 A(a until b)"; "Kind is 1 (at most c) or 2 (at least c)"
 abbrev pub E : ℕ

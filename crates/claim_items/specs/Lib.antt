@@ -1,5 +1,5 @@
 pub mod Write
 pub mod Items
-pub mod Right
+pub mod ItemRight
 pub mod Listed
 pub mod SmallInputs

@@ -8,7 +8,7 @@ use lib.Dec.{eqb}
 use Rattle.outcome.specs.declared.Outcome.{Outcome}
 use Rattle.call_map.specs.Refusals.{mapRefusal}
 use Rattle.call_check.specs.Check.{checkRefusal}
-use Rattle.claim_items.specs.Write.{word, arrow, chart, node, rule, map}
+use Rattle.claim_items.specs.Write.{wordBytes, arrow, chart, node, rule, map}
 use Rattle.claim_items.specs.Items.{short, trueUntil, A, atMost}
 
 -- bytes, and the number and the place that are answered: 0 and 0 if they are accepted
@@ -27,7 +27,7 @@ versioned v (b ∷ s) = v ∷ s
 
 -- Short with other arrows, of 8 bytes each, in place of its second
 abbrev pub shortWith : List ℕ → List ℕ
-shortWith a = chart 3 (length a / 8 + 2) (word 1 ++ word 2 ++ word 4) (arrow 0 1 5 10 ++ a ++ arrow 2 0 20 65535)
+shortWith a = chart 3 (length a / 8 + 2) (wordBytes 1 ++ wordBytes 2 ++ wordBytes 4) (arrow 0 1 5 10 ++ a ++ arrow 2 0 20 65535)
 
 unfoldable pub charts : List Refused
 charts =
@@ -42,21 +42,21 @@ charts =
     -- n = 0
     refused 4 0 (chart 0 1 [] (arrow 0 0 1 1)) ∷
     -- m = 2,049
-    refused 5 0 (chart 1 2049 (word 0) (arrow 0 0 1 1)) ∷
+    refused 5 0 (chart 1 2049 (wordBytes 0) (arrow 0 0 1 1)) ∷
     -- n = 1, m = 1, 20 bytes
-    refused 6 0 (chart 1 1 (word 0) (arrow 0 0 1 1 ++ 0 ∷ [])) ∷
+    refused 6 0 (chart 1 1 (wordBytes 0) (arrow 0 0 1 1 ++ 0 ∷ [])) ∷
     -- n = 3, end 3
     refused 7 1 (shortWith (arrow 1 3 0 4)) ∷
     -- slot 5 to 4
     refused 8 1 (shortWith (arrow 1 2 5 4)) ∷
     -- n = 2, one arrow 0 to 0
-    refused 9 1 (chart 2 1 (word 0 ++ word 0) (arrow 0 0 1 1)) ∷
+    refused 9 1 (chart 2 1 (wordBytes 0 ++ wordBytes 0) (arrow 0 0 1 1)) ∷
     -- arrow 0 to 0, slot 0 to 3
-    refused 19 0 (chart 1 1 (word 0) (arrow 0 0 0 3)) ∷
+    refused 19 0 (chart 1 1 (wordBytes 0) (arrow 0 0 0 3)) ∷
     -- state 0 only leads to a loop of fewest 0
-    refused 19 1 (chart 2 2 (word 0 ++ word 0) (arrow 0 1 0 3 ++ arrow 1 1 0 3)) ∷
+    refused 19 1 (chart 2 2 (wordBytes 0 ++ wordBytes 0) (arrow 0 1 0 3 ++ arrow 1 1 0 3)) ∷
     -- a loop that passes an arrow with fewest above 0 is not refused
-    refused 0 0 (chart 2 2 (word 0 ++ word 0) (arrow 0 1 0 3 ++ arrow 1 0 1 3)) ∷
+    refused 0 0 (chart 2 2 (wordBytes 0 ++ wordBytes 0) (arrow 0 1 0 3 ++ arrow 1 0 1 3)) ∷
     []
 
 unfoldable pub rules : List Refused
@@ -92,11 +92,11 @@ refusedMap n p d o m = record { detail = d; overview = o; map = m; number = n; p
 
 -- each of three states stands for itself
 abbrev pub itself : List ℕ
-itself = map 3 (word 0 ++ word 1 ++ word 2)
+itself = map 3 (wordBytes 0 ++ wordBytes 1 ++ wordBytes 2)
 
 -- Short with label word 1 at every state
 abbrev pub alike : List ℕ
-alike = chart 3 3 (word 1 ++ word 1 ++ word 1) (arrow 0 1 5 10 ++ arrow 1 2 0 4 ++ arrow 2 0 20 65535)
+alike = chart 3 3 (wordBytes 1 ++ wordBytes 1 ++ wordBytes 1) (arrow 0 1 5 10 ++ arrow 1 2 0 4 ++ arrow 2 0 20 65535)
 
 unfoldable pub maps : List RefusedMap
 maps =
@@ -111,9 +111,9 @@ maps =
     -- empty map
     refusedMap 20 0 short short [] ∷
     -- count 2, detail n = 3
-    refusedMap 20 0 short short (map 2 (word 0 ++ word 1)) ∷
+    refusedMap 20 0 short short (map 2 (wordBytes 0 ++ wordBytes 1)) ∷
     -- entry 3, overview n = 3
-    refusedMap 21 1 short short (map 3 (word 0 ++ word 3 ++ word 2)) ∷
+    refusedMap 21 1 short short (map 3 (wordBytes 0 ++ wordBytes 3 ++ wordBytes 2)) ∷
     -- 1 against 2; state 2 differs too
     refusedMap 22 1 alike short itself ∷
     -- 4 to 9, overview only 5 to 10

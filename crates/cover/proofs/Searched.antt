@@ -15,7 +15,8 @@ use Rattle.outcome.specs.Refusal.{found}
 use Rattle.outcome.proofs.Lowest.{lowest-none, offender-found}
 use Rattle.chart.specs.declared.ArrowWords.{ArrowWords}
 use Rattle.chart.specs.Bytes.{arrowCount, arrowWords, arrowOf}
-use Rattle.cover.specs.Covered.{endsWord, covers, CoverBetween, covered}
+use Rattle.cover.specs.Search.{endsWord, CoverBetween}
+use Rattle.cover.specs.Covered.{covers, covered}
 
 -- a number has one lowest byte, and one number above it
 byte : (a p b q : ℕ) → a < 256 → b < 256 → a + p * 256 ≡ b + q * 256 → (a ≡ b) × (p ≡ q)

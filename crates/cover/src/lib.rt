@@ -4,7 +4,8 @@ ghost use Prim.Native.Nat.{_-_, _≤_, _<_};
 ghost use lib.Dec.{ltb};
 ghost use Rattle.chart.specs.Bytes.{arrowCount, arrowOf, mostOf};
 ghost use Rattle.chart.specs.Shape.{Small, Passed};
-ghost use Rattle.cover.specs.Covered.{contains, endsWord, covers, CoverBetween, covered};
+ghost use Rattle.cover.specs.Covered.{contains, covers, covered};
+ghost use Rattle.cover.specs.Search.{endsWord, CoverBetween};
 use chart::ArrowWords;
 
 // The word by, as a most, contains the word most: "no end" contains every most, and no other contains it.

@@ -23,7 +23,7 @@ pub record Files (chart : List ℕ) (chartSize : ℕ) (rule : List ℕ) (ruleSiz
   pub rule-read : Counts ruleSize rule
 
 -- "each one more than the longest accepted": what is accepted is shorter, so of a longer file it shows that it is. That
--- a chart and a rule of one byte less are accepted is shown by the files of tests/files/large, of which the program prints the listing.
+-- a chart and a rule of one byte less are accepted is shown by the files of tests/files/large, which the program lists.
 pub record OneMore : Type 0 where
   pub chart : (s : List ℕ) → chartRefusal s .number ≡ 0 → length s < chartRead
   pub rule : (s : List ℕ) → ruleRefusal s .number ≡ 0 → length s < ruleRead

@@ -22,7 +22,7 @@ use Rattle.visits.proofs.Went.{went-left, went-held}
 use Rattle.engine.specs.Rest.{hurriedOf, AtRest}
 use Rattle.engine.specs.AsModel.{AsModel}
 use Rattle.sweeps.specs.Sweep.{Still, Sweep, Sweeps}
-use Rattle.walks.specs.Walk.{Runs}
+use Rattle.walks.specs.Walk.{Walks}
 use Rattle.sweeps.specs.declared.Tally.{Tally}
 use Rattle.engine.proofs.Descent.{Falls, falls-none, falls-moved, falls-all}
 use Rattle.engine.proofs.Ascent.{rises-none, rises-less, rises-moved, rises-swept, rises-all}
@@ -135,11 +135,11 @@ module _
     -- along the hints
     pub way-ran :
         {pace : Way} {moved : Bool} (vs new : List ℕ) → pace ≡ hurriedOf way b → OnTheWay way chart go k old vs →
-        Runs pace chart m moved vs new →
+        Walks pace chart m moved vs new →
         OnTheWay way chart go k old new × (left way (values new) ≤ left way (values vs)) ×
         (moved ≡ false → values new ≡ values vs)
     way-ran {moved = moved} vs new e u runs =
-        let ran = subst (λ pace. Runs pace chart m moved vs new) e runs go (ready-hurried way b (u .ready)) in
+        let ran = subst (λ pace. Walks pace chart m moved vs new) e runs go (ready-hurried way b (u .ready)) in
         let w = ran .2 in (
           way-more b late u w,
           omega (arith, went-left w, hurried-left way b (values new), hurried-left way b (values vs)),

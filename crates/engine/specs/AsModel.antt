@@ -33,3 +33,7 @@ minutesOf (Raise climb) vs = vs
 -- through the states of go the minutes are the model's
 pub record AsModel (way : Way) (chart : List ℕ) (n : ℕ) (go : ℕ → Bool) (old new : List ℕ) : Type 0 where
   pub is : minutesOf way (values new) ≡ settled way chart n go (minutesOf way (values old))
+
+-- whatever states are gone through, if the numbers have their sides
+abbrev pub AllAsModel : Way → List ℕ → ℕ → List ℕ → List ℕ → Type 0
+AllAsModel way chart n old new = (go : ℕ → Bool) → Ready way go old → AsModel way chart n go old new

@@ -2,13 +2,12 @@
 // of a chart raise the numbers of their starts (they are relaxed), until none does. The arrow that raised a number last is
 // its hint (the predecessor). In turn numbers rise along the hints and all arrows are tried.
 ghost use mathlib.Core.Path.{_≡_};
-ghost use mathlib.Core.Bool.{Bool, true, cond};
+ghost use mathlib.Core.Bool.{true, cond};
 ghost use Prim.Native.Nat.{ℕ, _+_, _≤_, _<_, min};
 ghost use lib.ListN.{length};
 ghost use Rattle.model.specs.Engine.{num};
 ghost use Rattle.hints.specs.Values.{radix, testedOf};
-ghost use Rattle.visits.specs.Moves.{Ready};
-ghost use Rattle.engine.specs.AsModel.{Prepared, AsModel};
+ghost use Rattle.engine.specs.AsModel.{Prepared, AllAsModel};
 ghost use Rattle.engine.specs.Rest.{AtRest, hurriedOf};
 use ways::Climb;
 use ways::Way;
@@ -94,8 +93,7 @@ fn kept(moved: bool, floor: usize) -> usize
 // Numbers rise until no arrow raises one. What rises after n sweeps rises without end, and goes to the cap at once.
 fn rise(way: Way, chart: &[u8], n: usize, m: usize, row: &mut [u8], numbers: &mut [u32])
     requires { ⌜ Prepared way (now chart) n m (now row) (now numbers) ⌝ }
-    ensures { λ _. ⌜ ((go : ℕ → Bool) → Ready way go (now (numbers .entry)) →
-        AsModel way (now (chart .entry)) n go (now (numbers .entry)) (now (numbers .exit))) ⌝ }
+    ensures { λ _. ⌜ AllAsModel way (now (chart .entry)) n (now (numbers .entry)) (now (numbers .exit)) ⌝ }
 {
     let mut done = 0;
     let mut seen = true;
@@ -119,8 +117,7 @@ fn rise(way: Way, chart: &[u8], n: usize, m: usize, row: &mut [u8], numbers: &mu
 // The same, and at once where no number can rise: the model's minutes.
 pub fn settle(way: Way, chart: &[u8], n: usize, m: usize, row: &mut [u8], numbers: &mut [u32])
     requires { ⌜ Prepared way (now chart) n m (now row) (now numbers) ⌝ }
-    ensures { λ _. ⌜ ((go : ℕ → Bool) → Ready way go (now (numbers .entry)) →
-        AsModel way (now (chart .entry)) n go (now (numbers .entry)) (now (numbers .exit))) ⌝ }
+    ensures { λ _. ⌜ AllAsModel way (now (chart .entry)) n (now (numbers .entry)) (now (numbers .exit)) ⌝ }
 {
     if at_rest(way, numbers) {
         return;

@@ -1,7 +1,7 @@
 -- What a row of marks is filled with, state by state.
 use mathlib.Core.Bool.{Bool, true, false, _&&_, _||_}
 use mathlib.Core.Bool.{not as neg}
-use Prim.Native.Nat.{ℕ, _-_}
+use Prim.Native.Nat.{ℕ}
 use lib.Dec.{ltb, leb}
 use Rattle.fill.specs.declared.Connective.{Connective}
 use Rattle.fill.specs.declared.Connective.the-variants.{Yes, Not, And, Or}

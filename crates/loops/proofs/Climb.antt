@@ -11,7 +11,7 @@ use Rattle.model.specs.Engine.{num, Numbers}
 use Rattle.model.proofs.Numbers.{set-elim}
 use Rattle.loops.specs.declared.Search.{Search}
 use Rattle.loops.specs.declared.Search.the-variants.{Ranks, Batch}
-use Rattle.loops.specs.Climb.{ownBit, lift, limit, Climbs, same, more, room}
+use Rattle.loops.specs.Climb.{ownBit, lift, limit, Climbs, same, more, slack}
 use Rattle.loops.proofs.Bits.{own-elim}
 
 -- the bits of either and the bits of both add up to a + b, and those of both to at most b
@@ -60,8 +60,8 @@ module _ {G : Chart} {search : Search} where
 -- a number set higher takes of the room
 pub room-set :
     (search : Search) (vs : List ℕ) (s w : ℕ) → num vs s < w → w ≤ limit search → s < length vs →
-    room search (set vs s w) < room search vs
-unfolding room
+    slack search (set vs s w) < slack search vs
+unfolding slack
 room-set search [] s w h k l = absurd (let z : ⊥ = omega arith in z)
 room-set search (v ∷ vs) zero w h k l = omega arith
 room-set search (v ∷ vs) (suc s) w h k l = omega (arith, room-set search vs s w h k (omega arith))

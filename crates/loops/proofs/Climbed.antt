@@ -15,7 +15,7 @@ use Rattle.chart.specs.Shape.{Passed}
 use Rattle.chart.proofs.Chart.{arrow-mem, arrow-of}
 use Rattle.chart.proofs.Reading.{arrow-ends}
 use Rattle.loops.specs.declared.Search.{Search}
-use Rattle.loops.specs.Climb.{Raises, limit, Climbs, same, more, Quiet, room}
+use Rattle.loops.specs.Climb.{Raises, limit, Climbs, same, more, Unraised, slack}
 use Rattle.loops.specs.Climbed.{liftAt, RestsAt, Raised, Climbed}
 use Rattle.loops.proofs.Climb.{lift-limit, climb-trans, room-set}
 
@@ -79,7 +79,7 @@ module _ {s : List ℕ} {search : Search} where
             } in
             subst (Climbs (chartOf s) search old) (sym (y .0)) (more same raises)
 
-        falls : 1 ≤ r → room search new < room search old
+        falls : 1 ≤ r → slack search new < slack search old
         falls k =
             let y = x .higher k in
             let a = arrowWords s i .start in
@@ -87,7 +87,7 @@ module _ {s : List ℕ} {search : Search} where
             let inside : a < length old = omega (arith, arrow-ends p i l .0, ns .size) in
             let low = lift-limit search (num old a) (num old b) b (ns .capped a) (ns .capped b) in
             let less = room-set search old a (liftAt search a b old) (y .1) low inside in
-            subst (λ v. room search v < room search old) (sym (y .0)) less
+            subst (λ v. slack search v < slack search old) (sym (y .0)) less
 
     -- the same of the words w that were read
     pub climbed-one :
@@ -117,16 +117,16 @@ module _ {s : List ℕ} {search : Search} where
           let here = subst (λ v. RestsAt s search v i) (x .0) (y .1 i (omega arith) (omega arith)) in
           (y .0 ∙ x .0, λ j l. below-more (RestsAt s search us) i (λ k h. x .1 k (omega arith) h) here j)
 
-      falls : (r ≡ 0) ⊎ (1 ≤ r) → (q ≡ 0) ⊎ (1 ≤ q) → 1 ≤ r + q → room search ws < room search us
+      falls : (r ≡ 0) ⊎ (1 ≤ r) → (q ≡ 0) ⊎ (1 ≤ q) → 1 ≤ r + q → slack search ws < slack search us
       falls (inl e) (inl f) l = absurd (let z : ⊥ = omega arith in z)
-      falls (inl e) (inr g) l = subst (λ x. room search ws < room search x) (a .still e .0) (b .falls g)
-      falls (inr g) (inl f) l = subst (λ x. room search x < room search us) (sym (b .still f .0)) (a .falls g)
+      falls (inl e) (inr g) l = subst (λ x. slack search ws < slack search x) (a .still e .0) (b .falls g)
+      falls (inr g) (inl f) l = subst (λ x. slack search x < slack search us) (sym (b .still f .0)) (a .falls g)
       falls (inr g) (inr h) l = omega (arith, a .falls g, b .falls h)
 
   -- a round that raises nothing: no arrow does
   pub climbed-quiet :
       {n m r : ℕ} {old new : List ℕ} → Passed s n m → Climbed s search 0 m r old new → r ≡ 0 →
-      Quiet (chartOf s) search new
+      Unraised (chartOf s) search new
   climbed-quiet {new = new} p x z a k =
       let y = x .still z in
       let w = arrow-of s a k in

@@ -1,4 +1,4 @@
--- The answers of the functions that look for loops, from the numbers at rest.
+-- The answers of the functions that look for loops, from numbers that have climbed as far as they can.
 use mathlib.Core.Path.{_≡_, refl, sym, subst, ap}
 use mathlib.Core.Logic.{_↔_}
 use mathlib.Core.Bool.{true, false}

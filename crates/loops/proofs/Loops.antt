@@ -16,7 +16,7 @@ use Rattle.masks.proofs.Bits.{Has, has-zero}
 use Rattle.model.specs.Engine.{num}
 use Rattle.model.proofs.Numbers.{set-elim}
 use Rattle.loops.specs.declared.Search.the-variants.{Ranks, Batch}
-use Rattle.loops.specs.Climb.{ownBit, lift, Climbs, same, more, Quiet}
+use Rattle.loops.specs.Climb.{ownBit, lift, Climbs, same, more, Unraised}
 use Rattle.loops.proofs.Bits.{has-or, has-own}
 
 -- ── Which states are on a loop, of 32: at first no state has a bit ──
@@ -47,7 +47,7 @@ module _ {G : Chart} (base : ℕ) {old : List ℕ} (zeros : (s : ℕ) → num ol
       let new : Has w j → Instant G (base + j) s = λ k. chain (bits .0 (subst (λ x. Has x j) (r .lifted) k)) in
       set-elim (λ u x. Has x j → Instant G (base + j) u) vs s w new (λ u k. tells p j l u k) t h
 
-  module _ {vs : List ℕ} (climbs : Climbs G (Batch base) old vs) (quiet : Quiet G (Batch base) vs) where
+  module _ {vs : List ℕ} (climbs : Climbs G (Batch base) old vs) (quiet : Unraised G (Batch base) vs) where
     -- no arrow raises further, so its start has the bits of its end, and its end's own bit
     start-bit :
         (j : ℕ) → j < 32 → {s : ℕ} (a : Arrow) → List·Memᴰ a (G .arrows) → a .start ≡ s → a .fewest ≡ 0 →
@@ -100,7 +100,7 @@ module _ {G : Chart} (dr : Drawn G) {old : List ℕ} (zeros : (s : ℕ) → num 
         (t, chain-below dr i, i)
 
     module _
-        (quiet : Quiet G (Ranks (states G)) vs)
+        (quiet : Unraised G (Ranks (states G)) vs)
         (low : (s : ℕ) → s < states G → num vs s < states G) where
       -- no arrow raises further, and the numbers are below the cap, so the number falls along each of these arrows
       falls : (a : Arrow) → List·Memᴰ a (G .arrows) → a .fewest ≡ 0 → num vs (a .end) < num vs (a .start)

@@ -41,12 +41,12 @@ pub data Climbs (G : Chart) (search : Search) (old : List ℕ) : List ℕ → Ty
   more : {vs : List ℕ} {s w : ℕ} → Climbs G search old vs → Raises G search vs s w → Climbs G search old (set vs s w)
 
 -- no arrow raises a number further
-abbrev pub Quiet : Chart → Search → List ℕ → Type 0
-Quiet G search vs =
+abbrev pub Unraised : Chart → Search → List ℕ → Type 0
+Unraised G search vs =
     (a : Arrow) → List·Memᴰ a (G .arrows) → a .fewest ≡ 0 →
     lift search (num vs (a .start)) (num vs (a .end)) (a .end) ≡ num vs (a .start)
 
 -- how far the numbers are from the limit, together
-unfoldable pub room : Search → List ℕ → ℕ
-room search [] = 0
-room search (v ∷ vs) = limit search - v + room search vs
+unfoldable pub slack : Search → List ℕ → ℕ
+slack search [] = 0
+slack search (v ∷ vs) = limit search - v + slack search vs

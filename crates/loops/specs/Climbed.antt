@@ -9,7 +9,7 @@ use Rattle.model.specs.Engine.{num}
 use Rattle.model.specs.ZeroLoop.{onZeroLoop}
 use Rattle.chart.specs.Bytes.{arrowWords, chartOf}
 use Rattle.loops.specs.declared.Search.{Search}
-use Rattle.loops.specs.Climb.{lift, Climbs, Quiet, room}
+use Rattle.loops.specs.Climb.{lift, Climbs, Unraised, slack}
 
 -- what the arrow from s to e, with fewest 0, makes of the number of s
 abbrev pub liftAt : Search → ℕ → ℕ → List ℕ → ℕ
@@ -32,14 +32,14 @@ pub record Climbed (s : List ℕ) (search : Search) (lo hi r : ℕ) (old new : L
   pub few : lo + r ≤ hi
   pub climbs : Climbs (chartOf s) search old new
   pub still : r ≡ 0 → (new ≡ old) × ((i : ℕ) → lo ≤ i → i < hi → RestsAt s search old i)
-  pub falls : 1 ≤ r → room search new < room search old
+  pub falls : 1 ≤ r → slack search new < slack search old
 
 -- from numbers that are all 0, no arrow raises a number further
 pub record FullyClimbed (G : Chart) (search : Search) (vs : List ℕ) : Type 0 where
   pub start : List ℕ
   pub zeros : (s : ℕ) → num start s ≡ 0
   pub climbs : Climbs G search start vs
-  pub quiet : Quiet G search vs
+  pub quiet : Unraised G search vs
 
 -- the states from base on, below end, are a batch of the n states, and no state before them is on a loop
 pub record Batched (G : Chart) (n base end : ℕ) : Type 0 where

@@ -24,7 +24,8 @@ pub fn refused(number: u32, place: u32) -> Outcome
     Outcome { number, place }
 }
 
-// The numbers of 01's table. Of a head, three in a row: too short, another version, a stated length that is not the real one.
+// The numbers of 01's table. Of a head, three in a row: too short, another version, a stated length that is not the real
+// one.
 pub const CHART_HEAD: u32 = 1;
 
 pub const STATE_COUNT: u32 = 4;

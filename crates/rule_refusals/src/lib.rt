@@ -34,7 +34,7 @@ fn wrong_a(form: u8, a: usize) -> bool
     if form == rule::form::NO_FIELD {
         return a != 0;
     }
-    form == rule::form::LABELLED && 15 < a
+    form == rule::form::LABELLED && rule::LAST_LABEL < a
 }
 
 // The fault of row 14.
@@ -48,7 +48,7 @@ fn is_malformed(w: NodeWords) -> bool
     if rule::form::BOUNDED < form {
         return true;
     }
-    if w.kind != 0 {
+    if w.kind != rule::NO_BOUND {
         return true;
     }
     if w.c != 0 {

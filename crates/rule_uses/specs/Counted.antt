@@ -1,6 +1,6 @@
 -- How often nodes are operands, as two sets.
 use mathlib.Core.Path.{_≡_}
-use Prim.Native.Nat.{ℕ, _-_, _<_}
+use Prim.Native.Nat.{ℕ, _<_}
 use lib.Dec.{leb}
 use Rattle.masks.specs.Member.{member}
 use Rattle.rule_uses.specs.declared.Used.{Used}

@@ -44,10 +44,10 @@ pub record Below (chart : List ℕ) (n : ℕ) (rule : List ℕ) (t : ℕ) (old m
 
 module _ (chart : List ℕ) (n : ℕ) (rule : List ℕ) (t : ℕ) where
   -- a row that was right is right after row t was written rightly: it is row t, or it lies apart from it
-  wrote-still :
+  written-still :
       {mid new : List ℕ} → RowWritten n t (holds (chartOf chart) (formulaAt rule t)) mid new →
       (u : ℕ) → Right chart n rule u mid → Right chart n rule u new
-  wrote-still {new = new} w u r =
+  written-still {new = new} w u r =
       by-cases (decLt u t)
       (λ h s k. w .elsewhere (u * n + s) (inl (omega (arith, row-below n h))) ∙ r s k)
       (λ h. by-cases (decLt t u)
@@ -115,7 +115,7 @@ module _ {chart : List ℕ} {n : ℕ} {rule : List ℕ} {t : ℕ} where
         record {
           size = w .size ∙ b .size;
           done = λ u v. turn u (one-of (eqb t u) _ _ _ _ (subst (λ x. 0 < x) (times-settled-at acc t u l) v));
-          still = λ u r. wrote-still chart n rule t w u (b .still u r);
+          still = λ u r. written-still chart n rule t w u (b .still u r);
           after = λ j k. w .elsewhere j (inr k) ∙ b .after j k;
         }
       where
@@ -126,5 +126,5 @@ module _ {chart : List ℕ} {n : ℕ} {rule : List ℕ} {t : ℕ} where
             ((leb 3 (nodeWords rule t .operation) ≡ true) × (0 < timesSettled rule (nodeWords rule t .b) u))) →
             Right chart n rule u new
         turn u (inl e) = subst (λ v. Right chart n rule v new) (eqb-true t u e) (w .here)
-        turn u (inr (inl k)) = wrote-still chart n rule t w u (b .left (leb-true 2 _ (k .0)) u (k .1))
-        turn u (inr (inr k)) = wrote-still chart n rule t w u (b .right (leb-true 3 _ (k .0)) u (k .1))
+        turn u (inr (inl k)) = written-still chart n rule t w u (b .left (leb-true 2 _ (k .0)) u (k .1))
+        turn u (inr (inr k)) = written-still chart n rule t w u (b .right (leb-true 3 _ (k .0)) u (k .1))

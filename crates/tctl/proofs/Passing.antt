@@ -1,5 +1,4 @@
 -- The moments of every run of an accepted chart pass every number.
-use mathlib.Core.Path.{_≡_}
 use mathlib.Core.Logic.{by-cases}
 use Prim.Native.Nat.{ℕ, zero, suc, _+_, _≤_, _<_}
 use native.Mathlib.Omega.{arith}

@@ -1,7 +1,6 @@
 -- Runs: a step and then a run, a run after its first step, a run by a rule for its next step, and their moments.
 use mathlib.Core.Path.{_≡_, refl, sym, subst}
 use Prim.Native.Nat.{ℕ, zero, suc, _+_, _<_}
-use native.Mathlib.Omega.{arith}
 use Rattle.base.proofs.Sum.{sum-suc}
 use Rattle.tctl.specs.Chart.{Chart, states}
 use Rattle.tctl.specs.Run.{Run, Step, moment}

@@ -18,6 +18,7 @@ abbrev pub To : ℕ → ℕ → Type 0
 To t s = s ≡ t
 
 module _ {G : Chart} {go end : ℕ → Type 0} where
+  -- how many arrows it takes
   abbrev pub steps : {s : ℕ} → Path G go end s → ℕ
   steps (stop e) = 0
   steps (step g x p) = suc (steps p)

@@ -18,7 +18,7 @@ use Rattle.ways.specs.Way.{top, leftOver}
 use Rattle.initial.specs.declared.Initial.the-variants.{Reach, Goal}
 use Rattle.until_start.specs.Risen.{Risen}
 use Rattle.until_start.specs.FromOperands.{someMeets, allMeet, unhinderedUpTo}
-use Rattle.until_start.proofs.Waits.{answers, up-to, one-more, left-at, at-most-left, left-tabulated, left-reach, plain-answers}
+use Rattle.until_start.proofs.Waits.{row-answers, up-to, one-more, left-at, at-most-left, left-tabulated, left-reach, plain-answers}
 
 -- ── E(p until q) ──
 
@@ -31,7 +31,7 @@ module _ {chart ns : List ℕ} {n : ℕ} {p q : ℕ → Bool} (c : ℕ) where
       at-most-left c (valueOf (num ns s)) (omega arith) ∙
       ap (λ v. leb v c) (sym (left-at ns s (omega (arith, r .size)))) ∙
       up-to (num (leftOver (values ns)) s) c ∙
-      answers (λ v. ltb v (suc c))
+      row-answers (λ v. ltb v (suc c))
       (r .is ∙
       ap (lowered (chartOf chart .arrows) n p)
       (left-tabulated n _ (λ s. cond (q s) 0 (c + 1)) (λ s l. left-reach (q s) (c + 1) (omega arith))) ∙
@@ -43,7 +43,7 @@ module _ {chart ns : List ℕ} {n : ℕ} {p q : ℕ → Bool} (c : ℕ) where
   unfolding someRow greatest
   some-at-least r s l =
       ap (ltb c) (value-at ns s) ∙
-      answers (ltb c)
+      row-answers (ltb c)
       (r .is ∙ ap (λ k. greatest (chartOf chart .arrows) n k p (λ s. cond (q s) 1 0)) (one-more c)) s l
 
 -- ── A(p until q), by the waits ──
@@ -53,7 +53,7 @@ module _ (n : ℕ) (arrows : List Arrow) (p q : ℕ → Bool) where
   unfolding allRow
   all-at-most c s l =
       ap (λ k. leb (num (waits arrows n k p q) s) k) (one-more c) ∙
-      answers (λ v. leb v (suc c)) {ws = waits arrows n (suc c) p q} refl s l
+      row-answers (λ v. leb v (suc c)) {ws = waits arrows n (suc c) p q} refl s l
 
   pub all-plain : {c : ℕ} → c ≡ 0 → Same n (unhinderedUpTo true n arrows n p q) (allMeet (atLeast c) arrows n p q)
   unfolding allRow

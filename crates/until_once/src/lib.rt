@@ -1,4 +1,4 @@
-// Untils that one run of the engine settles: E with either bound, and the states from which no run fails or waits.
+// E(a until b) with either bound, which one run of the engine settles.
 ghost use Prim.Native.Nat.{_<_};
 ghost use Rattle.tctl.specs.Formula.{atMost, atLeast};
 ghost use Rattle.until_start.specs.Lent.{Lent, OperandsBelow};

@@ -47,8 +47,8 @@ pub lower-row :
 lower-row {n} {a = a} w l s k =
     ap (λ v. eqb v 1) (w .elsewhere (a * n + s) (inl (omega (arith, row-below n l))))
 
-pub wrote-besides : {n t : ℕ} {f : ℕ → Bool} {old new : List ℕ} → RowWritten n t f old new → Besides n t old new
-wrote-besides w = record { size = w .size; elsewhere = w .elsewhere }
+pub written-besides : {n t : ℕ} {f : ℕ → Bool} {old new : List ℕ} → RowWritten n t f old new → Besides n t old new
+written-besides w = record { size = w .size; elsewhere = w .elsewhere }
 
 -- the last writing of row t stands
 pub written-again :

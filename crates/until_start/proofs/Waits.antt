@@ -26,11 +26,11 @@ use Rattle.until_start.specs.Risen.{Risen}
 use Rattle.until_start.specs.FromOperands.{unhinderedUpTo, allMeetPlain}
 
 -- a row that is tabulated from the numbers ts answers as the same numbers ws do
-pub answers :
-    {n : ℕ} (judge : ℕ → Bool) {ws ts : List ℕ} → ws ≡ ts →
-    Same n (λ s. judge (num ws s)) (ask (tabulate n (λ s. judge (num ts s))))
-answers {n} judge {ws} {ts} e s l =
-    ap (λ t. judge (num t s)) e ∙ sym (getD-tabulate n (λ s. judge (num ts s)) false s l)
+pub row-answers :
+    {n : ℕ} (test : ℕ → Bool) {ws ts : List ℕ} → ws ≡ ts →
+    Same n (λ s. test (num ws s)) (ask (tabulate n (λ s. test (num ts s))))
+row-answers {n} test {ws} {ts} e s l =
+    ap (λ t. test (num t s)) e ∙ sym (getD-tabulate n (λ s. test (num ts s)) false s l)
 
 -- up to c is below c + 1
 pub up-to : (v c : ℕ) → leb v c ≡ ltb v (suc c)
@@ -85,4 +85,4 @@ module _ {chart ns : List ℕ} {n : ℕ} {p q : ℕ → Bool} (c : ℕ) where
 module _ (n : ℕ) (arrows : List Arrow) (p q : ℕ → Bool) where
   pub plain-answers : Same n (unhinderedUpTo true n arrows n p q) (allMeetPlain arrows n p q)
   unfolding plainRow
-  plain-answers = answers (λ v. leb v n) {ws = waits (map ticking arrows) n n p q} refl
+  plain-answers = row-answers (λ v. leb v n) {ws = waits (map ticking arrows) n n p q} refl

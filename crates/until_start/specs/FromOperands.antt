@@ -14,26 +14,26 @@ use Rattle.rule.specs.declared.NodeWords.{NodeWords}
 use Rattle.fill.specs.Written.{RowWritten}
 
 -- an answer for each of n states, from where two operands hold
-abbrev pub Until : Type 0
-Until = List Arrow → ℕ → (ℕ → Bool) → (ℕ → Bool) → ℕ → Bool
+abbrev pub ByOperands : Type 0
+ByOperands = List Arrow → ℕ → (ℕ → Bool) → (ℕ → Bool) → ℕ → Bool
 
 -- some run meets the until
-abbrev pub someMeets : Bound → Until
+abbrev pub someMeets : Bound → ByOperands
 someMeets bound arrows n p q = ask (someRow arrows n bound p q)
 
 -- every run meets the until
-abbrev pub allMeet : Bound → Until
+abbrev pub allMeet : Bound → ByOperands
 allMeet bound arrows n p q = ask (allRow arrows n bound p q)
 
 -- every run meets the until with no bound
-abbrev pub allMeetPlain : Until
+abbrev pub allMeetPlain : ByOperands
 allMeetPlain arrows n p q = ask (plainRow arrows n p q)
 
 -- no run fails the until, or waits for it, up to a limit of minutes or of ticks
-abbrev pub unhinderedUpTo : Bool → ℕ → Until
+abbrev pub unhinderedUpTo : Bool → ℕ → ByOperands
 unhinderedUpTo ticks limit arrows n p q s = leb (num (waits (weighed ticks arrows) n limit p q) s) limit
 
 -- row t was written with what the until makes of the rows of node w's operands
-abbrev pub FromOperands : Until → List ℕ → ℕ → ℕ → NodeWords → List ℕ → List ℕ → Type 0
+abbrev pub FromOperands : ByOperands → List ℕ → ℕ → ℕ → NodeWords → List ℕ → List ℕ → Type 0
 FromOperands until chart n t w old new =
     RowWritten n t (until (chartOf chart .arrows) n (mark n old (w .a)) (mark n old (w .b))) old new

@@ -1,11 +1,9 @@
 // The engine on an until: from the operands' marks, with row t lent to it meanwhile; and the states from which no run
 // fails the until or waits for it.
-ghost use mathlib.Core.Bool.{Bool};
-ghost use Prim.Native.Nat.{ℕ, suc, _≤_};
+ghost use Prim.Native.Nat.{suc, _≤_};
 ghost use Rattle.model.specs.Marks.{mark};
 ghost use Rattle.ways.specs.Way.{highest};
-ghost use Rattle.visits.specs.Moves.{Ready};
-ghost use Rattle.engine.specs.AsModel.{AsModel};
+ghost use Rattle.engine.specs.AsModel.{AllAsModel};
 ghost use Rattle.until_start.specs.Lent.{Lent, OperandsBelow, Able, Besides};
 ghost use Rattle.until_start.specs.Risen.{Suits, Risen};
 ghost use Rattle.until_start.specs.FromOperands.{FromOperands, unhinderedUpTo};
@@ -26,8 +24,7 @@ pub fn run(
 )
     requires { ⌜ Lent (now chart) n m t (now marks) (now numbers) × Able way (now numbers) ⌝ }
     ensures { λ _. ⌜ Besides n t (now (marks .entry)) (now (marks .exit))
-        × ((go : ℕ → Bool) → Ready way go (now (numbers .entry)) →
-        AsModel way (now (chart .entry)) n go (now (numbers .entry)) (now (numbers .exit))) ⌝ }
+        × AllAsModel way (now (chart .entry)) n (now (numbers .entry)) (now (numbers .exit)) ⌝ }
 {
     let at = t * n;
     let end = at + n;

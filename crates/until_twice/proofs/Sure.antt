@@ -1,4 +1,4 @@
--- A(p until q, at least c), c above 0: the minutes from a sure start, judged, are its row.
+-- A(p until q, at least c), c above 0: the minutes from a sure start, compared with c, are its row.
 use mathlib.Core.Path.{_≡_, refl, sym, ap, _∙_}
 use mathlib.Core.Bool.{Bool, true, false, cond, _&&_, _||_}
 use mathlib.Core.Bool.{not as neg}
@@ -25,7 +25,7 @@ use Rattle.initial.specs.Filled.{Filled}
 use Rattle.initial.proofs.Choice.{cond-le}
 use Rattle.initial.proofs.Sided.{Begun, filled-begun}
 use Rattle.until_twice.specs.Starts.{sureStart}
-use Rattle.until_start.proofs.Waits.{answers, left-at, at-least-left, left-tabulated}
+use Rattle.until_start.proofs.Waits.{row-answers, left-at, at-least-left, left-tabulated}
 
 -- c minutes where p holds and every arrow leads well, else 0
 left-sure :
@@ -109,4 +109,4 @@ all-at-least p q zero size h k start r s l = absurd (let z : ⊥ = omega arith i
 all-at-least {chart} {ns = ns} {n} p q (suc c) size h k start r s l =
     at-least-left (suc c) (valueOf (num ns s)) h k ∙
     ap (leb (suc c)) (sym (left-at ns s (omega (arith, size)))) ∙
-    answers (leb (suc c)) (r .is ∙ ap (lowered (chartOf chart .arrows) n (λ s. true)) start) s l
+    row-answers (leb (suc c)) (r .is ∙ ap (lowered (chartOf chart .arrows) n (λ s. true)) start) s l

@@ -1,2 +1,2 @@
 pub mod Remarked
-pub mod Runs
+pub mod Walks

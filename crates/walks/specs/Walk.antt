@@ -10,8 +10,8 @@ use Rattle.ways.specs.declared.Way.{Way}
 use Rattle.visits.specs.Moves.{Ready, Went}
 
 -- the numbers moved, or did not; unless moved no value changed
-abbrev pub Runs : Way → List ℕ → ℕ → Bool → List ℕ → List ℕ → Type 0
-Runs way chart m moved old new =
+abbrev pub Walks : Way → List ℕ → ℕ → Bool → List ℕ → List ℕ → Type 0
+Walks way chart m moved old new =
     (go : ℕ → Bool) → Ready way go old →
     (any : Bool) × (moved ≡ false → any ≡ false) × Went way chart m go any old new
 

@@ -6,7 +6,7 @@ ghost use Prim.Native.Nat.{_≤_, _<_};
 ghost use lib.ListN.{length};
 ghost use Rattle.chart.specs.Shape.{Passed};
 ghost use Rattle.visits.specs.Moves.{Given, Goes};
-ghost use Rattle.walks.specs.Walk.{Runs, Remarked};
+ghost use Rattle.walks.specs.Walk.{Walks, Remarked};
 use ways::Way;
 
 // The k-th of n from the first on, or from the last back.
@@ -83,7 +83,7 @@ fn trail(
 // taken on trust.
 fn back(way: Way, chart: &[u8], n: usize, m: usize, count: usize, row: &[u8], numbers: &mut [u32])
     requires { ⌜ Given way (now chart) n m (now numbers) × (length (now row) ≡ n) × (count ≤ n) ⌝ }
-    ensures { λ _. ⌜ Runs way (now (chart .entry)) m true (now (numbers .entry)) (now (numbers .exit)) ⌝ }
+    ensures { λ _. ⌜ Walks way (now (chart .entry)) m true (now (numbers .entry)) (now (numbers .exit)) ⌝ }
 {
     let mut k = count;
     while 0 < k {
@@ -108,7 +108,7 @@ fn walk_from(
     numbers: &mut [u32],
 )
     requires { ⌜ Given way (now chart) n m (now numbers) × (length (now row) ≡ n) × (s < n) ⌝ }
-    ensures { λ _. ⌜ Runs way (now (chart .entry)) m true (now (numbers .entry)) (now (numbers .exit)) ⌝ }
+    ensures { λ _. ⌜ Walks way (now (chart .entry)) m true (now (numbers .entry)) (now (numbers .exit)) ⌝ }
 {
     let t = trail(seen, chart, n, m, s, row, numbers);
     visits::leap(way, chart, n, m, t.count, t.at, numbers);
@@ -118,7 +118,7 @@ fn walk_from(
 // A walk from each state that was not met on one of them.
 fn walk(way: Way, seen: bool, chart: &[u8], n: usize, m: usize, row: &mut [u8], numbers: &mut [u32])
     requires { ⌜ Given way (now chart) n m (now numbers) × (length (now row) ≡ n) ⌝ }
-    ensures { λ _. ⌜ Runs way (now (chart .entry)) m true (now (numbers .entry)) (now (numbers .exit)) ⌝ }
+    ensures { λ _. ⌜ Walks way (now (chart .entry)) m true (now (numbers .entry)) (now (numbers .exit)) ⌝ }
 {
     let mut s = 0;
     while s < n {
@@ -130,7 +130,7 @@ fn walk(way: Way, seen: bool, chart: &[u8], n: usize, m: usize, row: &mut [u8], 
 // The hints are tried once more where minutes fall, in the other order. Answers whether walks are called for.
 fn again(way: Way, chart: &[u8], n: usize, m: usize, numbers: &mut [u32]) -> bool
     requires { ⌜ Given way (now chart) n m (now numbers) ⌝ }
-    ensures { λ _. ⌜ Runs way (now (chart .entry)) m true (now (numbers .entry)) (now (numbers .exit)) ⌝ }
+    ensures { λ _. ⌜ Walks way (now (chart .entry)) m true (now (numbers .entry)) (now (numbers .exit)) ⌝ }
 {
     match way {
         Way::Lower => pass(way, false, chart, n, m, numbers),
@@ -155,7 +155,7 @@ pub fn along(
     numbers: &mut [u32],
 ) -> Track
     requires { ⌜ Given way (now chart) n m (now numbers) × (length (now row) ≡ n) ⌝ }
-    ensures { λ r. ⌜ Runs way (now (chart .entry)) m (r .moved) (now (numbers .entry)) (now (numbers .exit)) ⌝ }
+    ensures { λ r. ⌜ Walks way (now (chart .entry)) m (r .moved) (now (numbers .entry)) (now (numbers .exit)) ⌝ }
 {
     if !pass(way, true, chart, n, m, numbers) {
         return Track { seen, moved: false };

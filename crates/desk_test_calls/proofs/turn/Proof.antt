@@ -59,7 +59,7 @@ use Rattle.call_reader.proofs.peek.Met as peek-thm
 use Rattle.desk_test_calls.specs.declared.Turned.{Turned}
 use Rattle.desk_test_calls.proofs.Turned as S
 use Rattle.desk_test_calls.proofs.Turned.Laws as S′
-use Rattle.desk_test_calls.proofs.Lent.{R, Next, to, Lent, lends, Back, comes-back}
+use Rattle.desk_test_calls.proofs.LentReader.{R, Next, to, LentReader, lends, Back, comes-back}
 use Rattle.desk_test_calls.proofs.turn.Key.{name as #desk_test_calls·turn}
 use Rattle.desk_test_calls.proofs.turn as turn
 use Rattle.desk_test_calls.proofs.turn.Statement as stated
@@ -157,7 +157,7 @@ module _ {M : Type 1} (𝓤 : URA M) (H : Heap 𝓤) (A : Atoms 𝓤) (W : Given
             assigns ! (addr ! (from ! (stop !))) (from ! (stop !)) (init ! 3 refl (tt, tt)) $
             -- the reader is lent to `next`, and taken back
             move ! (11 ∷ 0 ∷ 1 ∷ []) $
-            use3 W (later (Lent 𝓤 H A mem run W κ q l₃ start)) (lends 𝓤 H A mem run W κ q l₃ start u) $ await ! tt $
+            use3 W (later (LentReader 𝓤 H A mem run W κ q l₃ start)) (lends 𝓤 H A mem run W κ q l₃ start u) $ await ! tt $
             pick ! (λ a. pick ! (λ δ. split ! $
             calls-at ! fm (Next 𝓤 H A mem run) known-next (to 𝓤 H A mem run W κ q l₃ start a δ)
             (and-then ! (load ! (from ! (stop !)) (look ! 3 refl)) (no-more !)) (λ w.

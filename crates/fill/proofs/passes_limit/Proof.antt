@@ -1,4 +1,4 @@
--- The two ways of judging.
+-- Above the limit, or up to it.
 use Rattle.fill.proofs.passes_limit.Statement.{statement}
 use Rattle.fill.proofs.passes_limit.Tie as tie
 

@@ -2,7 +2,7 @@
 use mathlib.Core.Path.{_∙_}
 use native.Mathlib.Omega.{arith}
 use Rattle.chart.specs.Bytes.{chartOf}
-use Rattle.loops.specs.Climb.{Climbs, same, room}
+use Rattle.loops.specs.Climb.{Climbs, same, slack}
 use Rattle.loops.proofs.Climb.{climb-trans, climb-size, climb-numbers}
 use Rattle.loops.proofs.Climbed.{climbed-quiet}
 use Rattle.loops.proofs.Cleared.{cleared-numbers}
@@ -13,7 +13,7 @@ abbrev Inv-loop : tie.InvT-loop
 Inv-loop search chart n m numbers₀ numbers = Climbs (chartOf chart) search numbers₀ numbers
 
 abbrev μ-loop : tie.MeasureT-loop
-μ-loop search chart n m numbers₀ numbers = room search numbers
+μ-loop search chart n m numbers₀ numbers = slack search numbers
 
 -- the stops: the call, the numbers cleared, the loop's head, a round climbed
 abbrev start : tie.After-clear Inv-loop μ-loop → tie.Start Inv-loop μ-loop

@@ -8,15 +8,15 @@ use Rattle.until_once.proofs.Untils.{some-at-most}
 use Rattle.until_once.proofs.some_at_most.Statement.{statement}
 use Rattle.until_once.proofs.some_at_most.Tie as tie
 
--- the start, where the engine ran, and where its numbers were judged
+-- the start, where the engine ran, and where its numbers became marks
 abbrev start : tie.After-run-from-arg2 → tie.Start
 start c = c .before .before .before .before .before .before
 
 abbrev ran : tie.After-fill-limit → tie.After-run-from
 ran c = c .before .before .before .before .before .before .before
 
-abbrev judged : tie.After-slice-known5 → tie.After-fill-limit
-judged c = c .before .before
+abbrev marked : tie.After-slice-known5 → tie.After-fill-limit
+marked c = c .before .before
 
 run-from-requires : tie.Need-run-from-requires
 unfolding ceilingOf
@@ -26,10 +26,10 @@ run-from-requires c κs =
 
 returns : tie.Need-returns
 returns c =
-    let from = ran (judged c) in
+    let from = ran (marked c) in
     let rose = from .run-from .ensures in
     written-again (rose .0)
-    (written-as (judged c .fill-limit .ensures) (some-at-most _ (start (from .before) .pre .2) (rose .1)))
+    (written-as (marked c .fill-limit .ensures) (some-at-most _ (start (from .before) .pre .2) (rose .1)))
 
 pub some-at-most-spec : {M : Type 1} → statement M
 some-at-most-spec =

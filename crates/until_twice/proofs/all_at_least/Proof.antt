@@ -3,13 +3,13 @@ use mathlib.Core.Bool.{true}
 use native.Mathlib.Omega.{arith}
 use borrow.Author.Tests.{not-true, not-false}
 use borrow.Author.Needs.{needs}
-use Rattle.until_start.proofs.Rows.{written-as, written-again, wrote-besides}
+use Rattle.until_start.proofs.Rows.{written-as, written-again, written-besides}
 use Rattle.until_twice.proofs.Sure.{all-at-least}
 use Rattle.until_twice.proofs.NoneSure.{none-at-least}
 use Rattle.until_twice.proofs.all_at_least.Statement.{statement}
 use Rattle.until_twice.proofs.all_at_least.Tie as tie
 
--- the start, where the answer is known and is yes, where the engine ran, and where its numbers were judged
+-- the start, where the answer is known and is yes, where the engine ran, and where its numbers became marks
 abbrev start : tie.After-sure-start → tie.Start
 start c = c .before .before .before .before .before .before
 
@@ -22,8 +22,8 @@ yes c = c .before .before
 abbrev ran : tie.After-fill-limit → tie.After-run
 ran c = c .before .before .before .before .before .before .before .before
 
-abbrev judged : tie.After-slice-known7 → tie.After-fill-limit
-judged c = c .before .before
+abbrev marked : tie.After-slice-known7 → tie.After-fill-limit
+marked c = c .before .before
 
 returns : tie.Need-returns
 returns c =
@@ -48,14 +48,14 @@ run-requires c κs =
 
 returns-2 : tie.Need-returns-2
 returns-2 c =
-    let fell = ran (judged c) in
+    let fell = ran (marked c) in
     let else = yes (fell .before) in
     let p = start (sure (else .before)) .pre in
     let begun = sure (else .before) .sure-start .ensures in
     let e = not-false _ (else .if1 .left) in
-    written-again (wrote-besides (begun .0))
+    written-again (written-besides (begun .0))
     (written-again (fell .run .ensures .0)
-    (written-as (judged c .fill-limit .ensures)
+    (written-as (marked c .fill-limit .ensures)
     (all-at-least _ _ _ (search needs) (p .1 .1) (omega (arith, p .1 .0)) (begun .1 .is e)
     (fell .run .ensures .1 _ (begun .1 .ready e)))))
 

@@ -1,6 +1,6 @@
 -- A pass on the way down.
 use borrow.Author.Needs.{needs}
-use Rattle.walks.proofs.Runs.{runs-none, runs-goes, runs-any}
+use Rattle.walks.proofs.Walks.{runs-none, runs-goes, runs-any}
 use Rattle.walks.proofs.again.Statement.{statement}
 use Rattle.walks.proofs.again.Tie as tie
 

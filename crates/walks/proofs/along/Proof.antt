@@ -2,7 +2,7 @@
 use borrow.Author.Needs.{needs}
 use borrow.Author.Tests.{not-true}
 use Rattle.visits.proofs.Went.{given-still}
-use Rattle.walks.proofs.Runs.{runs-goes, runs-as, runs-both}
+use Rattle.walks.proofs.Walks.{runs-goes, runs-as, runs-both}
 use Rattle.walks.proofs.along.Statement.{statement}
 use Rattle.walks.proofs.along.Tie as tie
 

@@ -5,14 +5,14 @@ use Prim.Native.Nat.{_≤_}
 use native.Mathlib.Omega.{arith}
 use lib.ListN.{length}
 use Rattle.visits.proofs.Went.{given-still}
-use Rattle.walks.specs.Walk.{Runs}
-use Rattle.walks.proofs.Runs.{runs-none, runs-goes, runs-both}
+use Rattle.walks.specs.Walk.{Walks}
+use Rattle.walks.proofs.Walks.{runs-none, runs-goes, runs-both}
 use Rattle.walks.proofs.back.Statement.{statement}
 use Rattle.walks.proofs.back.Tie as tie
 
 abbrev Inv-loop : tie.InvT-loop
 Inv-loop way chart n m count row numbers₀ k₀ numbers k =
-    (k ≤ n) × (length numbers ≡ n) × Runs way chart m true numbers₀ numbers
+    (k ≤ n) × (length numbers ≡ n) × Walks way chart m true numbers₀ numbers
 
 abbrev μ-loop : tie.MeasureT-loop
 μ-loop way chart n m count row numbers₀ k₀ numbers k = k

@@ -5,14 +5,14 @@ use Prim.Native.Nat.{_≤_, _-_}
 use native.Mathlib.Omega.{arith}
 use lib.ListN.{length}
 use Rattle.visits.proofs.Went.{given-still}
-use Rattle.walks.specs.Walk.{Runs}
-use Rattle.walks.proofs.Runs.{runs-none, runs-both}
+use Rattle.walks.specs.Walk.{Walks}
+use Rattle.walks.proofs.Walks.{runs-none, runs-both}
 use Rattle.walks.proofs.walk.Statement.{statement}
 use Rattle.walks.proofs.walk.Tie as tie
 
 abbrev Inv-loop : tie.InvT-loop
 Inv-loop way seen chart n m row₀ numbers₀ s₀ row numbers s =
-    (s ≤ n) × (length row ≡ n) × (length numbers ≡ n) × Runs way chart m true numbers₀ numbers
+    (s ≤ n) × (length row ≡ n) × (length numbers ≡ n) × Walks way chart m true numbers₀ numbers
 
 abbrev μ-loop : tie.MeasureT-loop
 μ-loop way seen chart n m row₀ numbers₀ s₀ row numbers s = n - s

@@ -3,7 +3,7 @@ use mathlib.Core.Bool.{true}
 use native.Mathlib.Omega.{arith}
 use borrow.Author.Needs.{needs}
 use Rattle.visits.proofs.Went.{given-still}
-use Rattle.walks.proofs.Runs.{runs-marked, runs-goes, runs-both}
+use Rattle.walks.proofs.Walks.{runs-marked, runs-goes, runs-both}
 use Rattle.walks.proofs.walk_from.Statement.{statement}
 use Rattle.walks.proofs.walk_from.Tie as tie
 

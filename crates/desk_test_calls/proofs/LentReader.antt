@@ -68,8 +68,8 @@ module _ {M : Type 1} (𝓤 : URA M) (H : Heap 𝓤) (A : Atoms 𝓤) (at-mem : 
     Kept a δ = ‵ (flent (a ∷ κ) (Body (mem (R κ)) l 0 δ)) ⊛ raw (Rest 𝓤 H A W a (PosShare·left q))
 
     -- the reader is lent: what `next` asks, and what is kept
-    abbrev pub Lent : Item 𝓤
-    Lent = some (λ (a : ℕ). some (λ (δ : GName). raw (Next .pre (to a δ)) ⊛ Kept a δ))
+    abbrev pub LentReader : Item 𝓤
+    LentReader = some (λ (a : ℕ). some (λ (δ : GName). raw (Next .pre (to a δ)) ⊛ Kept a δ))
 
     -- the reader in the local, with the machine value v, beside κ's token
     abbrev Stands : Val → List (Item 𝓤)
@@ -77,7 +77,7 @@ module _ {M : Type 1} (𝓤 : URA M) (H : Heap 𝓤) (A : Atoms 𝓤) (at-mem : 
 
     -- κ's token is halved. One half is met with a share of the new atom's token and is 's's, the other is 'a's. The
     -- reader goes into a borrow for 's, which makes the reference.
-    pub lends : (v : Val) → ent 𝓤 (⋆ 𝓤 H A (Stands v)) (H .⇛ (mean 𝓤 H A Lent))
+    pub lends : (v : Val) → ent 𝓤 (⋆ 𝓤 H A (Stands v)) (H .⇛ (mean 𝓤 H A LentReader))
     lends v =
         qed W (Stands v) ∵ updating ! $
         use2 W (‵ (partAt (R κ) fullShare r l 0))

@@ -13,7 +13,7 @@ use Rattle.loops.specs.Accepted.{AcceptedChart}
 use Rattle.claim_items.specs.Items.{Item}
 
 -- chart and rule are accepted, each state has a mark, 1 just where the last node holds and 0 just where not
-pub record Right (it : Item) : Type 0 where
+pub record ItemRight (it : Item) : Type 0 where
   pub chart : AcceptedChart (it .chart)
   pub rule : ruleRefusal (it .rule) ≡ success
   pub each : length (it .marks) ≡ states (chartOf (it .chart))
