@@ -1,12 +1,14 @@
 -- The laws of sums.
 use mathlib.Core.Path.{_≡_, refl, ap, _∙_}
 use mathlib.Core.Bool.{Bool, true, false, cond}
+use mathlib.Core.List.{List, [], _∷_}
 use Prim.Native.Nat.{ℕ, zero, suc, _+_, _*_, _≤_, _<_}
 use native.Mathlib.Nat.{zero-mul, one-mul}
 use native.Mathlib.Omega.{arith}
+use lib.ListN.{length, getD, set}
 use lib.Dec.{eqb}
 use borrow.Author.Tests.{eqb-true, eqb-false, ne-eqb}
-use Rattle.base.specs.Sum.{sum}
+use Rattle.base.specs.Sum.{sum, total}
 
 -- the first term apart
 pub sum-suc : (f : ℕ → ℕ) (i : ℕ) → sum f (suc i) ≡ f 0 + sum (λ j. f (suc j)) i
@@ -55,3 +57,10 @@ sum-one t g (suc k) h = turn (eqb t k) refl (λ l. sum-one t g k l)
     turn false e ih =
         let f = eqb-false t k e in
         omega (arith, ih (omega arith), zero-mul (g k))
+
+-- the sum over a list after one entry is set
+pub total-set :
+    (f : ℕ → ℕ) (l : List ℕ) (i v : ℕ) → i < length l → total f (set l i v) + f (getD l i 0) ≡ total f l + f v
+total-set f [] i v h = absurd (let z : ⊥ = omega arith in z)
+total-set f (x ∷ l) zero v h = omega arith
+total-set f (x ∷ l) (suc i) v h = omega (arith, total-set f l i v (omega arith))

@@ -1,11 +1,12 @@
--- Climbing numbers: there are as many, no lift falls, none passes the limit, and the room under the limit shrinks.
+-- Climbing numbers: there are as many, no lift falls, none passes the limit, and the slack under the limit shrinks.
 use mathlib.Core.Path.{_≡_, refl, _∙_}
-use mathlib.Core.List.{List, [], _∷_}
-use Prim.Native.Nat.{ℕ, zero, suc, _≤_, _<_}
+use mathlib.Core.List.{List}
+use Prim.Native.Nat.{ℕ, _-_, _≤_, _<_}
 use native.Mathlib.Omega.{arith}
 use lib.ListN.{length, set, length-set}
 use lib.Pow.{pow-lt}
 use lib.Bits.{bitOr, or-lt, or-add-and, and-le-r}
+use Rattle.base.proofs.Sum.{total-set}
 use Rattle.tctl.specs.Chart.{Chart}
 use Rattle.model.specs.Engine.{num, Numbers}
 use Rattle.model.proofs.Numbers.{set-elim}
@@ -57,11 +58,8 @@ module _ {G : Chart} {search : Search} where
       {n : ℕ} {old vs : List ℕ} → Numbers n (limit search) old → Climbs G search old vs → Numbers n (limit search) vs
   climb-numbers h p = record { size = climb-size p ∙ h .size; capped = climb-limit (h .capped) p }
 
--- a number set higher takes of the room
-pub room-set :
+-- a number set higher takes of the slack
+pub slack-set :
     (search : Search) (vs : List ℕ) (s w : ℕ) → num vs s < w → w ≤ limit search → s < length vs →
     slack search (set vs s w) < slack search vs
-unfolding slack
-room-set search [] s w h k l = absurd (let z : ⊥ = omega arith in z)
-room-set search (v ∷ vs) zero w h k l = omega arith
-room-set search (v ∷ vs) (suc s) w h k l = omega (arith, room-set search vs s w h k (omega arith))
+slack-set search vs s w h k l = omega (arith, total-set (λ v. limit search - v) vs s w l)

@@ -17,7 +17,7 @@ use Rattle.chart.proofs.Reading.{arrow-ends}
 use Rattle.loops.specs.declared.Search.{Search}
 use Rattle.loops.specs.Climb.{Raises, limit, Climbs, same, more, Unraised, slack}
 use Rattle.loops.specs.Climbed.{liftAt, RestsAt, Raised, Climbed}
-use Rattle.loops.proofs.Climb.{lift-limit, climb-trans, room-set}
+use Rattle.loops.proofs.Climb.{lift-limit, climb-trans, slack-set}
 
 -- what is true of i is true from i on, below i + 1
 alone : (P : ℕ → Type 0) (i : ℕ) → P i → (j : ℕ) → i ≤ j → j < i + 1 → P j
@@ -86,7 +86,7 @@ module _ {s : List ℕ} {search : Search} where
             let b = arrowWords s i .end in
             let inside : a < length old = omega (arith, arrow-ends p i l .0, ns .size) in
             let low = lift-limit search (num old a) (num old b) b (ns .capped a) (ns .capped b) in
-            let less = room-set search old a (liftAt search a b old) (y .1) low inside in
+            let less = slack-set search old a (liftAt search a b old) (y .1) low inside in
             subst (λ v. slack search v < slack search old) (sym (y .0)) less
 
     -- the same of the words w that were read

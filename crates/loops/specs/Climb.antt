@@ -1,11 +1,12 @@
 -- Numbers, one a state, that climb along the arrows with fewest 0: what rounds over the arrows do.
 use mathlib.Core.Path.{_≡_}
 use mathlib.Core.Bool.{cond}
-use mathlib.Core.List.{List, [], _∷_, List·Memᴰ}
-use Prim.Native.Nat.{ℕ, suc, _+_, _-_, _^_, _<_, min, max}
+use mathlib.Core.List.{List, List·Memᴰ}
+use Prim.Native.Nat.{ℕ, suc, _-_, _^_, _<_, min, max}
 use lib.ListN.{set}
 use lib.Dec.{leb, ltb}
 use lib.Bits.{bitOr}
+use Rattle.base.specs.Sum.{total}
 use Rattle.tctl.specs.Chart.{Chart, Arrow}
 use Rattle.model.specs.Engine.{num}
 use Rattle.loops.specs.declared.Search.{Search}
@@ -47,6 +48,5 @@ Unraised G search vs =
     lift search (num vs (a .start)) (num vs (a .end)) (a .end) ≡ num vs (a .start)
 
 -- how far the numbers are from the limit, together
-unfoldable pub slack : Search → List ℕ → ℕ
-slack search [] = 0
-slack search (v ∷ vs) = limit search - v + slack search vs
+abbrev pub slack : Search → List ℕ → ℕ
+slack search vs = total (λ v. limit search - v) vs

@@ -1,10 +1,11 @@
 -- What became of the numbers: nothing, one number set, one thing after another.
 use mathlib.Core.Path.{_≡_, refl, sym, subst, ap, _∙_}
 use mathlib.Core.Bool.{Bool, true, false, _||_, false≢true}
-use mathlib.Core.List.{List, [], _∷_}
-use Prim.Native.Nat.{ℕ, zero, suc, _+_, _-_, _≤_, _<_}
+use mathlib.Core.List.{List}
+use Prim.Native.Nat.{ℕ, _-_, _≤_, _<_}
 use native.Mathlib.Omega.{arith}
 use lib.ListN.{length, set, length-set}
+use Rattle.base.proofs.Sum.{total-set}
 use Rattle.base.proofs.Truth.{or-false}
 use Rattle.tctl.specs.Chart.{Arrow}
 use Rattle.model.specs.Engine.{num}
@@ -16,15 +17,8 @@ use Rattle.hints.specs.Values.{valueOf, testedOf, values}
 use Rattle.hints.proofs.Values.{values-set, values-length}
 use Rattle.ways.specs.declared.Way.{Way}
 use Rattle.ways.specs.Way.{top, ceilingOf, sideOf, beside}
-use Rattle.visits.specs.Moves.{Given, Ready, Held, Moved, none, total, left, Went}
+use Rattle.visits.specs.Moves.{Given, Ready, Held, Moved, none, left, Went}
 use Rattle.visits.proofs.Moved.{moved-below, moved-both}
-
--- the sum over the numbers after one is set
-total-set :
-    (f : ℕ → ℕ) (vs : List ℕ) (i v : ℕ) → i < length vs → total f (set vs i v) + f (num vs i) ≡ total f vs + f v
-total-set f [] i v l = absurd (let z : ⊥ = omega arith in z)
-total-set f (x ∷ vs) zero v l = omega arith
-total-set f (x ∷ vs) (suc i) v l = omega (arith, total-set f vs i v (omega arith))
 
 module _ {way : Way} {chart : List ℕ} {m : ℕ} {go : ℕ → Bool} where
   pub went-none : {ns : List ℕ} → Ready way go ns → Went way chart m go false ns ns

@@ -1,9 +1,10 @@
 -- What arrows and loops make of the numbers, and what functions promise of that.
 use mathlib.Core.Path.{_≡_}
 use mathlib.Core.Bool.{Bool, true, false}
-use mathlib.Core.List.{List, [], _∷_}
-use Prim.Native.Nat.{ℕ, _+_, _-_, _≤_, _<_}
+use mathlib.Core.List.{List}
+use Prim.Native.Nat.{ℕ, _-_, _≤_, _<_}
 use lib.ListN.{length, set}
+use Rattle.base.specs.Sum.{total}
 use Rattle.tctl.specs.Chart.{Arrow}
 use Rattle.model.specs.Engine.{num}
 use Rattle.chart.specs.Bytes.{arrowWords, arrowOf, chartOf}
@@ -53,11 +54,6 @@ pub data Moved (way : Way) (chart : List ℕ) (m : ℕ) (go : ℕ → Bool) (old
   leap :
       {vs : List ℕ} → Moved way chart m go old vs → (r : ℕ) → r < length vs → 1 ≤ num vs r →
       num vs r < ceilingOf way → MayLeap way chart go r → Moved way chart m go old (set vs r (ceilingOf way))
-
--- the sum of f over the numbers
-abbrev pub total : (ℕ → ℕ) → List ℕ → ℕ
-total f [] = 0
-total f (x ∷ ns) = f x + total f ns
 
 -- how far the values can still rise
 abbrev pub left : Way → List ℕ → ℕ

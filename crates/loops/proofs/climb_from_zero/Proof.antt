@@ -1,4 +1,4 @@
--- Invariant: the numbers are those that rounds made of the first. Each further round leaves less room under the limit.
+-- Invariant: the numbers are those that rounds made of the first. Each further round leaves less slack under the limit.
 use mathlib.Core.Path.{_∙_}
 use native.Mathlib.Omega.{arith}
 use Rattle.chart.specs.Bytes.{chartOf}
