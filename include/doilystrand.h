@@ -5,7 +5,7 @@
  * returns; what it promises stands in docs/PROMISES.md, and the formats and the numbers of refusals in README.md.
  *
  * What C has to see to: a pointer is to as many elements as the size after it says (it may be null where that is 0),
- * and marks and scratch overlap nothing else that is lent.
+ * and marks, scratch and output overlap nothing else that is lent.
  */
 #ifndef DOILYSTRAND_H
 #define DOILYSTRAND_H
@@ -32,6 +32,10 @@ extern "C" {
 #define DOILYSTRAND_MAX_MARKS 16384
 #define DOILYSTRAND_MAX_SCRATCH 1024
 
+/* Bytes of the longest shown run, 257 positions of 6, and numbers of scratch that are enough for every one. */
+#define DOILYSTRAND_MAX_RUN 1542
+#define DOILYSTRAND_MAX_RUN_SCRATCH 65792
+
 /* The most of an arrow whose slot has no end. */
 #define DOILYSTRAND_NO_END 65535
 
@@ -40,6 +44,12 @@ typedef struct doilystrand_outcome {
     uint32_t number;
     uint32_t place;
 } doilystrand_outcome;
+
+/* What a call with one output answers: a refusal, or success, and how many bytes it wrote; 0 on a refusal. */
+typedef struct doilystrand_written {
+    doilystrand_outcome outcome;
+    size_t written;
+} doilystrand_written;
 
 /* A rule's kind. */
 enum {
@@ -79,6 +89,21 @@ doilystrand_outcome doilystrand_check(const uint8_t *chart, size_t chart_size,
                                       const uint8_t *rule, size_t rule_size,
                                       uint8_t *marks, size_t marks_size,
                                       uint32_t *scratch, size_t scratch_size);
+
+/*
+ * Does as check does, then shows a run that is the reason why an E-until node holds at the state, or why an A-until node
+ * bounded by "at most" doesn't. The run is written to output, 6 bytes a position: the state (2) and the minutes that the
+ * arrow taken from there takes (4), which are 0 at the last position. It has the fewest steps there are, at most 256;
+ * which of several runs appears is free. It wants 257n numbers of scratch, and 6 bytes of output for each position.
+ * Refused with 60 to 62 the marks are written all the same. The first 257n numbers of scratch are 0 after acceptance and
+ * after 62, the first 4n after 19, 60 and 61; everything else is left as lent, in output all that is past the run.
+ */
+doilystrand_written doilystrand_show(const uint8_t *chart, size_t chart_size,
+                                     const uint8_t *rule, size_t rule_size,
+                                     uint8_t *marks, size_t marks_size,
+                                     uint32_t *scratch, size_t scratch_size,
+                                     size_t node, size_t state,
+                                     uint8_t *output, size_t output_size);
 
 /* Whether a rule is of the all-runs kind, the some-run kind, both or neither. */
 doilystrand_kind_answer doilystrand_kind_of_rule(const uint8_t *rule, size_t rule_size);

@@ -11,7 +11,9 @@ fn main() {
         fail("OUT_DIR is not set: cargo runs this");
     };
     if let Err(why) = std::fs::copy(ARCHIVE, folder.join("libdoilystrand.a")) {
-        fail(&format!("target/staticlib/libdoilystrand.a can't be copied ({why}): run `rt staticlib doilystrand` first"));
+        fail(&format!(
+            "target/staticlib/libdoilystrand.a can't be copied ({why}): run `rt staticlib doilystrand` first"
+        ));
     }
     println!("cargo:rustc-link-search=native={}", folder.display());
     println!("cargo:rustc-link-lib=static=doilystrand");

@@ -1,8 +1,10 @@
-//! Library and peer compared on every input of check.
+//! Library and peer compared on every input of check and of show.
 
 use crate::input::Input;
 use crate::report::{GROWING, GROWTH};
-use bench::{families, rules, small};
+use crate::show::{Lent, Show, POSITIONS};
+use bench::{families, rules, shown, small};
+use std::collections::BTreeMap;
 
 /// As many of the drawn charts as take no notable time.
 const DRAWN: u64 = 100;
@@ -15,7 +17,51 @@ pub fn agreement() -> Result<(), String> {
         count += 1;
     }
     println!("Library and peer give equal outcomes, marks and scratch on all {count} inputs.");
+    show_agreement()
+}
+
+fn show_agreement() -> Result<(), String> {
+    for (chart, rule) in shown::ROWS {
+        let (show, steps) = Show::named(chart, rule)?;
+        let agreed = show.agree(Lent::whole).map_err(|why| format!("show, {chart}, {rule}: {why}"))?;
+        if agreed.steps() != Some(steps) {
+            return Err(format!("show, {chart}, {rule}: both answer {agreed:?}, not a run of {steps} steps"));
+        }
+    }
+    let mut counts = BTreeMap::new();
+    for seed in 0..DRAWN {
+        for show in asked_of(seed) {
+            let agreed = show.agree(|| lent_for(&show));
+            let what = || format!("show, seed-{seed}, node {}, state {}", show.node, show.state);
+            *counts.entry(agreed.map_err(|why| format!("{}: {why}", what()))?.number).or_insert(0) += 1;
+        }
+    }
+    let counts: Vec<String> = counts.iter().map(|(number, count)| format!("{number} {count} times")).collect();
+    println!("They show runs of equal steps on all {} inputs of show. On drawn charts they", shown::ROWS.len());
+    println!("answer alike: {}.", counts.join(", "));
     Ok(())
+}
+
+/// Every node of a drawn chart's rule, and one past the last, at about ten states, the first number past them included.
+fn asked_of(seed: u64) -> Vec<Show> {
+    let [n, _, k] = Input::drawn(seed).sizes().map(usize::from);
+    let step = n.div_ceil(10);
+    let mut asked = Vec::new();
+    for node in 0..=k {
+        let states = (node % step..=n).step_by(step).chain([n]);
+        asked.extend(states.map(|state| Show { input: Input::drawn(seed), node, state }));
+    }
+    asked
+}
+
+/// For most nodes enough; for some a number or a position too few.
+fn lent_for(show: &Show) -> Lent {
+    let scratch = POSITIONS * usize::from(show.input.sizes()[0]);
+    match show.node % 6 {
+        4 => Lent::new(scratch - 1, POSITIONS),
+        5 => Lent::new(scratch + 1, show.state % 3),
+        _ => Lent::new(scratch + 1, POSITIONS),
+    }
 }
 
 /// Chart, rule and the states that a chart of no size of its own is to have.

@@ -1,7 +1,7 @@
 //! One input of check, run on the library or on the peer.
 
 use crate::timing::{in_turn, Pair, Plan};
-use bench::{drawn, families, peer, rules, small};
+use bench::{drawn, families, peer, rules, shown, small};
 use std::hint::black_box;
 
 pub struct Input {
@@ -28,10 +28,13 @@ impl Input {
         Input::sized(chart, rule, 256, 2048)
     }
 
-    /// Small and drawn charts have their own size. The rule `seed` is that of the chart `seed-N`.
+    /// Small and drawn charts, and those of show, have their own size. The rule `seed` is that of the chart `seed-N`.
     pub fn sized(chart: &str, rule: &str, n: usize, m: usize) -> Result<Input, String> {
         if let (Some(seed), "seed") = (chart.strip_prefix("seed-"), rule) {
             return Ok(Input::drawn(seed.parse().map_err(|_| format!("{seed} is not a seed"))?));
+        }
+        if let Some(row) = shown::input(chart, rule) {
+            return Ok(Input { chart: row.chart, rule: row.rule });
         }
         let bytes = small::chart(chart).or_else(|| families::chart(chart, n, m)).ok_or(format!("no chart {chart}"))?;
         let rule = small::rule(rule).or_else(|| rules::rule(rule)).ok_or(format!("no rule {rule}"))?;

@@ -3,10 +3,13 @@
 pub mod bytes;
 pub mod drawn;
 pub mod families;
+pub mod ladder;
 pub mod maps;
 pub mod nodes;
 pub mod peer;
 pub mod random;
+pub mod ring;
 pub mod rules;
+pub mod shown;
 pub mod small;
 pub mod unordered;

@@ -1,24 +1,28 @@
 //! Times the library beside the peer.
 //!
 //! `bench` prints the tables, `bench --quick` the ratios alone; `bench --agree` only compares the two on all inputs.
-//! `bench --one CHART RULE library|peer COUNT` only runs one input that often, for counting instructions; `seed-N` with
-//! rule `seed` is a chart of the table of random ones. `bench --files CHART RULE FOLDER` writes one input for the desk
-//! program. `bench --names` prints the families, `bench --small` chart and rule of each small input.
+//! `bench --one CHART RULE PROGRAM COUNT` only runs one input that often, for counting instructions; `seed-N` with rule
+//! `seed` is a chart of the table of random ones. The program is `library` or `peer`, which check, or `library-show` or
+//! `peer-show`. `bench --files CHART RULE FOLDER` writes one input for the desk program. `bench --names` prints the
+//! families, `bench --small` chart and rule of each small input, `bench --shown` those of each run that is shown.
 
 mod agreement;
 mod input;
+mod library_show;
 mod ratios;
 mod report;
+mod show;
 mod timing;
 mod worst;
 
 use input::{Buffers, Input};
+use show::{Answer, Lent, Show};
 use std::process::ExitCode;
 use std::time::Duration;
 use timing::Plan;
 
-const USE: &str = "use: bench [--quick | --agree | --names | --small]
-     bench --one CHART RULE library|peer COUNT
+const USE: &str = "use: bench [--quick | --agree | --names | --small | --shown]
+     bench --one CHART RULE library|peer|library-show|peer-show COUNT
      bench --files CHART RULE FOLDER";
 
 /// The plan of the tables.
@@ -51,25 +55,40 @@ fn run(words: &[&str]) -> Result<(), String> {
             bench::small::ROWS.iter().for_each(|(chart, rule)| println!("{chart} {rule}"));
             Ok(())
         }
+        ["--shown"] => {
+            bench::shown::ROWS.iter().for_each(|(chart, rule)| println!("{chart} {rule}"));
+            Ok(())
+        }
         _ => Err(USE.to_string()),
     }
 }
 
 fn one(chart: &str, rule: &str, program: &str, count: &str) -> Result<(), String> {
-    let input = Input::named(chart, rule)?;
     let count: u32 = count.parse().map_err(|_| format!("{count} is not a count"))?;
-    let check = match program {
-        "library" => Input::library,
-        "peer" => Input::peer,
-        _ => return Err(format!("{program} is neither library nor peer")),
+    let accepted = match program {
+        "library" => checked(chart, rule, count, Input::library)?,
+        "peer" => checked(chart, rule, count, Input::peer)?,
+        "library-show" => shown(chart, rule, count, Show::library)?,
+        "peer-show" => shown(chart, rule, count, Show::peer)?,
+        _ => return Err(format!("{program} is no program")),
     };
-    let mut buffers = Buffers::new();
-    for _ in 0..count {
-        if check(&input, &mut buffers) != (0, 0) {
-            return Err(format!("{program} refuses {chart} with {rule}"));
-        }
+    if accepted {
+        Ok(())
+    } else {
+        Err(format!("{program} refuses {chart} with {rule}"))
     }
-    Ok(())
+}
+
+/// Whether all of so many checks accept.
+fn checked(chart: &str, rule: &str, count: u32, check: fn(&Input, &mut Buffers) -> (u32, u32)) -> Result<bool, String> {
+    let (input, mut buffers) = (Input::named(chart, rule)?, Buffers::new());
+    Ok((0..count).all(|_| check(&input, &mut buffers) == (0, 0)))
+}
+
+/// Whether all of so many calls show the run.
+fn shown(chart: &str, rule: &str, count: u32, show: fn(&Show, &mut Lent) -> Answer) -> Result<bool, String> {
+    let ((input, steps), mut lent) = (Show::named(chart, rule)?, Lent::whole());
+    Ok((0..count).all(|_| show(&input, &mut lent).steps() == Some(steps)))
 }
 
 fn files(chart: &str, rule: &str, folder: &str) -> Result<(), String> {

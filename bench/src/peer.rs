@@ -1,17 +1,23 @@
 //! A plain peer of the library's check, by the published method: shortest times by Dijkstra's search backwards from the
-//! goals, longest times over strongly connected components. It parses, refuses and marks as the library does.
+//! goals, longest times over strongly connected components. It parses, refuses and marks as the library does. A run is
+//! shown by a search over steps after that.
 
 mod arrows;
 mod chart;
 mod components;
+mod counts;
+mod layers;
 mod longest;
 mod rule;
 mod settle;
 mod shortest;
+mod show;
 
 use chart::Chart;
 use rule::Rule;
 use settle::Settler;
+
+pub use show::{show, Written};
 
 /// Number and place of a refusal; both 0 on success.
 #[derive(Clone, Copy, Debug, PartialEq, Eq)]
@@ -36,12 +42,12 @@ fn stated_length(bytes: &[u8]) -> usize {
 /// Marks every node of the rule at every state of the chart.
 pub fn check(chart: &[u8], rule: &[u8], marks: &mut [u8], scratch: &mut [u32]) -> Outcome {
     match accept(chart, rule, marks, scratch) {
-        Ok(()) => refusal(0, 0),
+        Ok(_) => refusal(0, 0),
         Err(refused) => refused,
     }
 }
 
-fn accept(chart: &[u8], rule: &[u8], marks: &mut [u8], scratch: &mut [u32]) -> Result<(), Outcome> {
+fn accept(chart: &[u8], rule: &[u8], marks: &mut [u8], scratch: &mut [u32]) -> Result<(Chart, Rule), Outcome> {
     let chart = Chart::read(chart)?;
     let rule = Rule::read(rule)?;
     let n = chart.labels.len();
@@ -51,5 +57,5 @@ fn accept(chart: &[u8], rule: &[u8], marks: &mut [u8], scratch: &mut [u32]) -> R
     scratch.fill(0);
     chart.refuse_instant_loop()?;
     Settler::new(&chart).settle(&rule, marks);
-    Ok(())
+    Ok((chart, rule))
 }

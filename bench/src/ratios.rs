@@ -1,8 +1,9 @@
 //! Times of the library as ratios to the peer's.
 
 use crate::input::Input;
+use crate::show::Show;
 use crate::timing::{Pair, Plan};
-use bench::{families, rules, small};
+use bench::{families, rules, shown, small};
 use std::time::Duration;
 
 /// The times on the family's chart that has the greatest ratio.
@@ -41,6 +42,7 @@ pub fn quick() -> Result<(), String> {
         all.extend(ratios);
     }
     small_charts()?;
+    shown_runs()?;
     println!("geometric mean {:.2}, worst family {:.2} {}", geometric_mean(&all), worst.0, worst.1);
     Ok(())
 }
@@ -54,6 +56,15 @@ fn small_charts() -> Result<(), String> {
         let times = Input::named(chart, rule)?.times(&QUICK);
         let ratio = times.map_err(|why| format!("{chart}, {rule}: {why}"))?.ratio();
         println!("{:17}{ratio:8.2}", format!("{chart} {rule}"));
+    }
+    Ok(())
+}
+
+fn shown_runs() -> Result<(), String> {
+    for (chart, rule) in shown::ROWS {
+        let (show, _) = Show::named(chart, rule)?;
+        let ratio = show.times(&QUICK).map_err(|why| format!("show, {chart}, {rule}: {why}"))?.ratio();
+        println!("{rule:17}{ratio:8.2}");
     }
     Ok(())
 }

@@ -3,9 +3,10 @@
 use crate::agreement::agreement;
 use crate::input::Input;
 use crate::ratios::worst_chart;
+use crate::show::Show;
 use crate::timing::{alone, Pair, Plan};
 use crate::worst;
-use bench::{families, maps, rules};
+use bench::{families, maps, rules, shown};
 use std::hint::black_box;
 
 pub const GROWTH: [usize; 5] = [16, 32, 64, 128, 256];
@@ -19,6 +20,7 @@ pub fn all(plan: &Plan) -> Result<(), String> {
     by_family(plan)?;
     growth(plan)?;
     worst::table()?;
+    shown_runs(plan)?;
     map_checks(plan)
 }
 
@@ -59,6 +61,32 @@ fn growth(plan: &Plan) -> Result<(), String> {
             let input = Input::sized(family, "mixed", n, 8 * n)?;
             row(&format!("{family} | {n}"), &input.times(plan)?);
         }
+    }
+    println!();
+    Ok(())
+}
+
+fn shown_runs(plan: &Plan) -> Result<(), String> {
+    println!("## Show: 256 states, 2,048 arrows, one until; the rule's number is that of the steps\n");
+    println!("Beside it check alone on the same chart and rule, median of the library and of the peer.\n");
+    print!("| chart | rule | library median | library best | peer median | peer best | library / peer ");
+    println!("| check, library | check, peer |");
+    println!("|---|---|---:|---:|---:|---:|---:|---:|---:|");
+    for (chart, rule) in shown::ROWS {
+        let (show, _) = Show::named(chart, rule)?;
+        let times = show.times(plan).map_err(|why| format!("show, {chart}, {rule}: {why}"))?;
+        let check = show.input.times(plan).map_err(|why| format!("{chart}, {rule}: {why}"))?;
+        let (library, peer) = (&times.library, &times.peer);
+        println!(
+            "| {chart} | {rule} | {:.1} | {:.1} | {:.1} | {:.1} | {:.2} | {:.1} | {:.1} |",
+            library.median,
+            library.best,
+            peer.median,
+            peer.best,
+            times.ratio(),
+            check.library.median,
+            check.peer.median
+        );
     }
     println!();
     Ok(())

@@ -2,6 +2,13 @@
 
 use crate::Outcome;
 
+/// The answer of a call with one output: how many bytes it wrote, 0 on a refusal.
+#[repr(C)]
+pub struct CodedWritten {
+    pub outcome: Outcome,
+    pub written: usize,
+}
+
 /// Kind of rule's answer: the kind is 0 for neither, 1 all-runs, 2 some-run, 3 both.
 #[repr(C)]
 pub struct CodedAnswer {
@@ -38,6 +45,21 @@ extern "C" {
         scratch: *mut u32,
         scratch_size: usize,
     ) -> Outcome;
+    #[rustfmt::skip]
+    pub fn doilystrand_show(
+        chart: *const u8,
+        chart_size: usize,
+        rule: *const u8,
+        rule_size: usize,
+        marks: *mut u8,
+        marks_size: usize,
+        scratch: *mut u32,
+        scratch_size: usize,
+        node: usize,
+        state: usize,
+        output: *mut u8,
+        output_size: usize,
+    ) -> CodedWritten;
     pub fn doilystrand_kind_of_rule(rule: *const u8, rule_size: usize) -> CodedAnswer;
     #[rustfmt::skip]
     pub fn doilystrand_map_check(

@@ -1,7 +1,8 @@
 //! Safe calls into the proved checker of timed rules over dispatch charts.
 //!
 //! The library takes any bytes and tests them itself, so no input is tested here. Answers are: a number, a kind, a place
-//! in a table, or a mark of [`marks`](marks()), that the library promises never to give ends in a panic that names it.
+//! in a table, a count of bytes written, or a mark of [`marks`](marks()), that the library promises never to give ends in
+//! a panic that names it.
 //! What is promised of each call stands in `docs/PROMISES.md`, the formats in `README.md`.
 //!
 //! ```
@@ -31,14 +32,21 @@ mod marks;
 mod outcome;
 mod refusals;
 mod row;
+mod run;
 #[cfg(test)]
 mod samples;
+mod show;
+mod why;
 
 pub use arrow::{arrow, ArrowWords};
 pub use check::check;
 pub use kind::{kind_of_rule, Kind, KindAnswer};
 pub use limits::{MAX_ARROWS, MAX_CHART, MAX_MAP, MAX_MARKS, MAX_NODES, MAX_RULE, MAX_SCRATCH, MAX_STATES, NO_END};
+pub use limits::{MAX_RUN, MAX_RUN_SCRATCH};
 pub use map::map_check;
 pub use marks::{marks, Marks};
 pub use outcome::{Outcome, Refusal};
 pub use row::{row, Choice};
+pub use run::{Position, Run};
+pub use show::show;
+pub use why::why;

@@ -19,6 +19,13 @@ pub const MAX_MARKS: usize = MAX_NODES * MAX_STATES;
 /// Numbers of scratch that are enough for every check.
 pub const MAX_SCRATCH: usize = 4 * MAX_STATES;
 
+/// A run of 256 steps, the most that one is shown with, has a position more.
+const MAX_POSITIONS: usize = 257;
+/// Bytes of the longest shown run.
+pub const MAX_RUN: usize = 6 * MAX_POSITIONS;
+/// Numbers of scratch that are enough for every shown run.
+pub const MAX_RUN_SCRATCH: usize = MAX_POSITIONS * MAX_STATES;
+
 /// The most of an arrow whose slot has no end.
 pub const NO_END: u32 = 65_535;
 
@@ -26,7 +33,7 @@ pub const NO_END: u32 = 65_535;
 mod tests {
     use super::*;
     use crate::samples;
-    use crate::{check, map_check};
+    use crate::{check, map_check, show};
 
     fn defined(line: &str) -> Option<(&str, usize)> {
         let (name, value) = line.strip_prefix("#define DOILYSTRAND_")?.split_once(' ')?;
@@ -45,6 +52,8 @@ mod tests {
             ("MAX_MAP", MAX_MAP),
             ("MAX_MARKS", MAX_MARKS),
             ("MAX_SCRATCH", MAX_SCRATCH),
+            ("MAX_RUN", MAX_RUN),
+            ("MAX_RUN_SCRATCH", MAX_RUN_SCRATCH),
             ("NO_END", NO_END as usize),
         ];
         assert_eq!(header, ours);
@@ -64,5 +73,18 @@ mod tests {
         let number = |m, s| check(&chart, &rule, &mut vec![0; m], &mut vec![0; s]).number;
         assert_eq!(number(MAX_MARKS - 1, MAX_SCRATCH), 17);
         assert_eq!(number(MAX_MARKS, MAX_SCRATCH - 1), 18);
+    }
+
+    #[test]
+    fn the_longest_run_takes_all_of_the_buffers() {
+        let (chart, rule) = (samples::largest_chart(), samples::some_run_of_at_least(256));
+        let shown = |s, o| {
+            let (mut marks, mut scratch, mut output) = (vec![0; MAX_MARKS], vec![0; s], vec![0; o]);
+            show(&chart, &rule, &mut marks, &mut scratch, 2, 0, &mut output)
+                .map_or_else(|refusal| refusal.outcome().number as usize, |run| run.bytes().len())
+        };
+        assert_eq!(shown(MAX_RUN_SCRATCH, MAX_RUN), MAX_RUN);
+        assert_eq!(shown(MAX_RUN_SCRATCH - 1, MAX_RUN), 61);
+        assert_eq!(shown(MAX_RUN_SCRATCH, MAX_RUN - 1), 62);
     }
 }

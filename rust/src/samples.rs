@@ -7,6 +7,10 @@ pub const SHORT: &[u8] = include_bytes!("../../examples/short/desk.cht");
 /// A(true until L2, at most 13).
 pub const WITHIN_13: &[u8] = include_bytes!("../../examples/short/desk.rul");
 
+/// E(true until L2, at most 5).
+pub const SOME_WITHIN_5: &[u8] =
+    &[1, 0, 0, 0, 31, 0, 3, 0, 0, 0, 0, 0, 0, 0, 0, 1, 0, 0, 2, 0, 0, 0, 0, 5, 1, 0, 0, 0, 1, 0, 5];
+
 /// Version and length of the whole before the words.
 fn framed(words: impl IntoIterator<Item = usize>) -> Vec<u8> {
     let rest: Vec<u8> = words.into_iter().flat_map(|w| u16::try_from(w).expect("a word").to_be_bytes()).collect();
@@ -25,6 +29,11 @@ pub fn largest_chart() -> Vec<u8> {
 pub fn largest_rule() -> Vec<u8> {
     let nots = (1..MAX_NODES).flat_map(|i| [0x0200, i - 1, 0, 0]);
     framed([MAX_NODES, 0, 0, 0, 0].into_iter().chain(nots))
+}
+
+/// E(true until true, at least these minutes).
+pub fn some_run_of_at_least(minutes: usize) -> Vec<u8> {
+    framed([3, 0, 0, 0, 0, 0, 0, 0, 0, 0x0502, 0, 1, minutes])
 }
 
 /// Each state stands for itself.

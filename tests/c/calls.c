@@ -12,6 +12,8 @@ _Static_assert(DOILYSTRAND_MAX_RULE == 7 + 8 * 64, "longest rule");
 _Static_assert(DOILYSTRAND_MAX_MAP == 7 + 2 * 256, "longest map");
 _Static_assert(DOILYSTRAND_MAX_MARKS == 64 * 256, "largest marks table");
 _Static_assert(DOILYSTRAND_MAX_SCRATCH == 4 * 256, "largest scratch");
+_Static_assert(DOILYSTRAND_MAX_RUN == 257 * 6, "longest run");
+_Static_assert(DOILYSTRAND_MAX_RUN_SCRATCH == 257 * 256, "largest scratch of a run");
 _Static_assert(DOILYSTRAND_NO_END == UINT16_MAX, "no end");
 
 static int failures;
@@ -35,6 +37,10 @@ static const uint8_t short_chart[] = {1, 0, 0, 0, 39, 0, 3, 0, 3, 0, 1, 0, 2, 0,
 /* A(true until L2, at most 13). */
 static const uint8_t rule[] = {1, 0, 0, 0, 31, 0, 3, 0, 0, 0, 0, 0, 0, 0, 0,
                                1, 0, 0, 2, 0, 0, 0, 0, 6, 1, 0, 0, 0, 1, 0, 13};
+
+/* E(true until L2, at most 5). */
+static const uint8_t some_rule[] = {1, 0, 0, 0, 31, 0, 3, 0, 0, 0, 0, 0, 0, 0, 0,
+                                    1, 0, 0, 2, 0, 0, 0, 0, 5, 1, 0, 0, 0, 1, 0, 5};
 
 static const uint8_t identity[] = {1, 0, 0, 0, 13, 0, 3, 0, 0, 0, 1, 0, 2};
 
@@ -61,6 +67,53 @@ static void refusals_are_told(void) {
            "an empty marks table is not 17");
     expect(is(doilystrand_check(short_chart, sizeof short_chart, rule, sizeof rule, marks, 9, scratch, 11), 18, 0),
            "11 numbers are not 18");
+}
+
+/* What Short and a rule of three nodes are shown with: 9 marks, 771 numbers and 18 bytes, and one more of each. */
+static uint8_t shown_marks[10];
+static uint32_t shown_scratch[772];
+static uint8_t shown_output[19];
+
+static doilystrand_written shown(size_t node, size_t state, size_t scratch_size, size_t output_size) {
+    memset(shown_marks, 77, sizeof shown_marks);
+    for (int i = 0; i < 772; i++) shown_scratch[i] = 7;
+    memset(shown_output, 99, sizeof shown_output);
+    return doilystrand_show(short_chart, sizeof short_chart, some_rule, sizeof some_rule, shown_marks, 10,
+                            shown_scratch, scratch_size, node, state, shown_output, output_size);
+}
+
+/* The marks stand, so many first numbers of scratch are 0, and all else is as lent past so many bytes of output. */
+static void expect_left(size_t cleared, size_t written) {
+    static const uint8_t listed[] = {1, 1, 1, 0, 0, 1, 1, 1, 1, 77};
+    expect(memcmp(shown_marks, listed, sizeof listed) == 0, "show leaves other marks");
+    for (size_t i = 0; i < 772; i++) expect(shown_scratch[i] == (i < cleared ? 0 : 7), "show leaves another scratch");
+    for (size_t i = written; i < 19; i++) expect(shown_output[i] == 99, "show changes output past the run");
+}
+
+static void expect_refused(doilystrand_written w, uint32_t number, size_t cleared, const char *what) {
+    expect(is(w.outcome, number, 0) && w.written == 0, what);
+    expect_left(cleared, 0);
+}
+
+static void runs_are_shown(void) {
+    static const uint8_t run[] = {0, 0, 0, 0, 0, 5, 0, 1, 0, 0, 0, 0, 0, 2, 0, 0, 0, 0};
+    doilystrand_written w = shown(2, 0, 772, 19);
+    expect(is(w.outcome, 0, 0) && w.written == sizeof run, "no run of Short is shown");
+    expect(memcmp(shown_output, run, sizeof run) == 0, "another run of Short is shown");
+    expect_left(771, sizeof run);
+    w = shown(2, 0, 771, 18);
+    expect(is(w.outcome, 0, 0) && w.written == sizeof run, "buffers that are just enough are not");
+    expect_refused(shown(1, 0, 772, 19), 60, 12, "a label is not 60");
+    expect_refused(shown(3, 0, 772, 19), 60, 12, "a node out of range is not 60");
+    expect_refused(shown(2, 3, 772, 19), 60, 12, "a state out of range is not 60");
+    expect_refused(shown(SIZE_MAX, SIZE_MAX, 772, 19), 60, 12, "the greatest numbers are not 60");
+    expect_refused(shown(2, 0, 770, 19), 61, 12, "770 numbers are not 61");
+    expect_refused(shown(2, 0, 772, 17), 62, 771, "17 bytes are not 62");
+    w = doilystrand_show(short_chart, sizeof short_chart, some_rule, sizeof some_rule, shown_marks, 10,
+                         shown_scratch, 772, 2, 0, NULL, 0);
+    expect(is(w.outcome, 62, 0) && w.written == 0, "an empty output is not 62");
+    w = doilystrand_show(NULL, 0, NULL, 0, NULL, 0, NULL, 0, 0, 0, NULL, 0);
+    expect(is(w.outcome, 1, 0) && w.written == 0, "nothing at all is not 1");
 }
 
 static void kinds_are_told(void) {
@@ -138,6 +191,26 @@ static doilystrand_outcome check_the_largest(size_t marks_size, size_t scratch_s
                              marks, marks_size, scratch, scratch_size);
 }
 
+/* E(true until true, at least 256): on the ring of all states it takes the longest run that is shown. */
+static const uint8_t long_rule[] = {1, 0, 0, 0, 31, 0, 3, 0, 0, 0, 0, 0, 0, 0, 0,
+                                    0, 0, 0, 0, 0, 0, 0, 0, 5, 2, 0, 0, 0, 1, 1, 0};
+
+static doilystrand_written show_the_longest(size_t scratch_size, size_t output_size) {
+    static uint8_t marks[DOILYSTRAND_MAX_MARKS];
+    static uint32_t scratch[DOILYSTRAND_MAX_RUN_SCRATCH];
+    static uint8_t output[DOILYSTRAND_MAX_RUN];
+    return doilystrand_show(largest_chart, sizeof largest_chart, long_rule, sizeof long_rule, marks, sizeof marks,
+                            scratch, scratch_size, 2, 0, output, output_size);
+}
+
+static void the_longest_is_shown(void) {
+    size_t scratch = DOILYSTRAND_MAX_RUN_SCRATCH, output = DOILYSTRAND_MAX_RUN;
+    doilystrand_written w = show_the_longest(scratch, output);
+    expect(is(w.outcome, 0, 0) && w.written == output, "the longest run is not shown");
+    expect(is(show_the_longest(scratch - 1, output).outcome, 61, 0), "the longest run manages with less scratch");
+    expect(is(show_the_longest(scratch, output - 1).outcome, 62, 0), "the longest run manages with less output");
+}
+
 static void the_largest_is_taken(void) {
     size_t size = sizeof largest_chart, marks = DOILYSTRAND_MAX_MARKS, scratch = DOILYSTRAND_MAX_SCRATCH;
     make_the_largest();
@@ -151,11 +224,13 @@ static void the_largest_is_taken(void) {
 int main(void) {
     marks_are_written();
     refusals_are_told();
+    runs_are_shown();
     kinds_are_told();
     maps_are_checked();
     rows_are_found();
     arrows_are_handed_out();
     the_largest_is_taken();
+    the_longest_is_shown();
     if (failures == 0) printf("calls: from C as promised\n");
     return failures != 0;
 }

@@ -1,7 +1,7 @@
 //! What the tests share.
 
 use bench::bytes::{self, Arrow, Node};
-use bench::peer::{self, Outcome};
+use bench::peer::{self, Outcome, Written};
 
 pub fn arrow(start: u16, end: u16, fewest: u16, most: u16) -> Arrow {
     Arrow { start, end, fewest, most }
@@ -42,6 +42,30 @@ pub fn call(chart: &[u8], rule: &[u8], marks: usize, scratch: usize) -> Answer {
     let (mut marks, mut scratch) = (vec![LENT_MARK; marks], vec![LENT_NUMBER; scratch]);
     let outcome = peer::check(chart, rule, &mut marks, &mut scratch);
     Answer { outcome, marks, scratch }
+}
+
+pub struct ShowAnswer {
+    pub answer: Written,
+    pub marks: Vec<u8>,
+    pub scratch: Vec<u32>,
+    pub output: Vec<u8>,
+}
+
+/// What show is asked for, and how much is lent to it.
+#[derive(Clone, Copy)]
+pub struct Ask {
+    pub node: usize,
+    pub state: usize,
+    pub marks: usize,
+    pub scratch: usize,
+    pub output: usize,
+}
+
+pub fn show(chart: &[u8], rule: &[u8], ask: Ask) -> ShowAnswer {
+    let (mut marks, mut scratch) = (vec![LENT_MARK; ask.marks], vec![LENT_NUMBER; ask.scratch]);
+    let mut output = vec![LENT_MARK; ask.output];
+    let answer = peer::show(chart, rule, &mut marks, &mut scratch, ask.node, ask.state, &mut output);
+    ShowAnswer { answer, marks, scratch, output }
 }
 
 /// The marks of an accepted call, after tables a little longer than asked for are found kept at their ends.

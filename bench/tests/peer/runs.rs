@@ -7,16 +7,16 @@ use bench::peer;
 use bench::random::Random;
 
 /// A pair that can't be told apart by the bound.
-struct Pairs<'a> {
-    arrows: &'a [Arrow],
-    n: usize,
+pub struct Pairs<'a> {
+    pub arrows: &'a [Arrow],
+    pub n: usize,
     /// One more than the bound: the minutes at which counting stops.
-    top: usize,
+    pub top: usize,
 }
 
 impl Pairs<'_> {
     /// Every pair that one step may lead to.
-    fn steps(&self, state: usize, minutes: usize) -> Vec<(usize, usize)> {
+    pub fn steps(&self, state: usize, minutes: usize) -> Vec<(usize, usize)> {
         let mut after = Vec::new();
         for arrow in self.arrows.iter().filter(|arrow| usize::from(arrow.start) == state) {
             let last = if arrow.most == NO_END { arrow.fewest + self.top as u16 } else { arrow.most };
@@ -73,7 +73,7 @@ fn rows(labels: &[u16], arrows: &[Arrow], nodes: &[Node]) -> Vec<Vec<bool>> {
     rows
 }
 
-fn random_chart(random: &mut Random) -> (Vec<u16>, Vec<Arrow>) {
+pub fn random_chart(random: &mut Random) -> (Vec<u16>, Vec<Arrow>) {
     let n = 1 + random.below(6);
     let m = n + random.below(n + 2);
     let labels = (0..n).map(|_| random.below(8) as u16).collect();
@@ -88,7 +88,7 @@ fn random_chart(random: &mut Random) -> (Vec<u16>, Vec<Arrow>) {
 }
 
 /// A tree in which each node but the last is used once: operands are taken from the roots still free.
-fn random_rule(random: &mut Random) -> Vec<Node> {
+pub fn random_rule(random: &mut Random) -> Vec<Node> {
     let mut nodes = Vec::new();
     let mut free = Vec::new();
     for _ in 0..2 + random.below(3) {
@@ -118,7 +118,7 @@ fn two_operands(a: u16, b: u16, random: &mut Random) -> Node {
 }
 
 /// The lowest state on a loop of arrows whose fewest are 0, by following them n times from each state.
-fn instant_loop(n: usize, arrows: &[Arrow]) -> Option<usize> {
+pub fn instant_loop(n: usize, arrows: &[Arrow]) -> Option<usize> {
     (0..n).find(|&first| {
         let mut reached = vec![false; n];
         for _ in 0..n {

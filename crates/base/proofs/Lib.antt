@@ -4,3 +4,4 @@ pub mod Tabulate
 pub mod Every
 pub mod Sum
 pub mod Pigeonhole
+pub mod Entries

@@ -1,6 +1,6 @@
 -- Check's table by parts: the rows of the chart, of the rule and of the room lent, then 19.
 use mathlib.Core.Path.{_≡_, refl, sym, ap}
-use mathlib.Core.Logic.{_⊎_, _↔_, Iff·rfl, Iff·trans, Iff·and}
+use mathlib.Core.Logic.{_⊎_, _↔_, Iff·rfl, Iff·symm, Iff·trans, Iff·and}
 use mathlib.Core.List.{List, [], _∷_, _++_}
 use Prim.Native.Nat.{ℕ, _*_, _≤_}
 use native.Mathlib.Omega.{arith}
@@ -18,7 +18,9 @@ use Rattle.chart.specs.Refusals.{chartTable, chartRefusal}
 use Rattle.rule.specs.Bytes.{nodeCount}
 use Rattle.rule.specs.Refusals.{ruleTable, ruleRefusal}
 use Rattle.rule.proofs.Accepted.{accepted}
-use Rattle.loops.specs.Refusal.{loopRow}
+use Rattle.loops.specs.Accepted.{AcceptedChart}
+use Rattle.loops.specs.Refusal.{loopRow, acceptedTable}
+use Rattle.loops.proofs.Accepted.{unmet-iff}
 use Rattle.room.specs.Room.{scratchSize, roomTable}
 use Rattle.call_check.specs.Check.{checkTable, checkRefusal}
 use Rattle.call_check.specs.Judged.{inputTable}
@@ -133,3 +135,8 @@ pub loop-number :
     (chart : List ℕ) → (first (loopRow chart ∷ []) .number ≡ 0) ⊎ (first (loopRow chart ∷ []) .number ≡ 19)
 unfolding loopRow
 loop-number chart = alone 19 _
+
+-- the rows of the chart and row 19 ask that the chart be accepted
+pub chart-iff : (chart : List ℕ) → (Unmet (chartTable chart) × Unmet (loopRow chart ∷ [])) ↔ AcceptedChart chart
+unfolding acceptedTable
+chart-iff chart = Iff·trans (Iff·symm (unmet-append-iff (chartTable chart) (loopRow chart ∷ []))) (unmet-iff chart)

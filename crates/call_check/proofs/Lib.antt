@@ -1,6 +1,5 @@
 pub mod Chain
 pub mod Judgeable
 pub mod Marks
-pub mod Scratch
 pub mod Answers
 pub mod Promise

@@ -21,21 +21,17 @@ use Rattle.loops.proofs.Accepted.{unmet-iff}
 use Rattle.room.specs.Room.{scratchSize}
 use Rattle.call_check.specs.Check.{checkTable, checkRefusal, marksOf, Checked}
 use Rattle.call_check.specs.Judged.{inputTable}
-use Rattle.call_check.proofs.Chain.{check-numbered, input-iff, check-iff, room-iff}
+use Rattle.call_check.proofs.Chain.{check-numbered, input-iff, check-iff, room-iff, chart-iff}
 use Rattle.call_check.proofs.Marks.{front-size, past-front, marks-length}
 use Rattle.call_check.proofs.Promise.{cleared-admitted, accepted-marks, refused-marks, cleared-scratch, refused-scratch}
-use Rattle.claim_demands.specs.FirstDemand.{Acceptable, Unbroken}
+use Rattle.claim_demands.specs.Acceptable.{Acceptable}
+use Rattle.claim_demands.specs.FirstDemand.{Unbroken}
 use Rattle.claim_demands.specs.SecondDemand.{SecondDemand}
 use Rattle.claim_demands.proofs.Answers.{answers}
 
 -- the meaning is a part of check's promise
 pub check-means : SecondDemand
 check-means chart rule marks scratch r newMarks newScratch c = c .meaning
-
--- the rows of the chart and row 19 ask that the chart be accepted
-chart-iff : (chart : List ℕ) → (Unmet (chartTable chart) × Unmet (loopRow chart ∷ [])) ↔ AcceptedChart chart
-unfolding acceptedTable
-chart-iff chart = Iff·trans (Iff·symm (unmet-append-iff (chartTable chart) (loopRow chart ∷ []))) (unmet-iff chart)
 
 -- those of the rule that it be
 pub rule-iff : (rule : List ℕ) → (ruleRefusal rule ≡ success) ↔ Unmet (ruleTable rule)

@@ -39,6 +39,7 @@ use Rattle.claim_demands.specs.FirstDemand.{KindTold, Wholly, PlaceTold,
 use Rattle.claim_demands.specs.FirstDemand.{HandedTold, StepTold, NextTold, FirstDemand}
 use Rattle.claim_demands.proofs.Answers.{answers}
 use Rattle.claim_demands.proofs.Check.{rule-iff, check-unbroken}
+use Rattle.claim_demands.proofs.Show.{show-told}
 use Rattle.claim_demands.proofs.MapCheck.{map-check-exact}
 
 -- ── Kind of rule ──
@@ -150,6 +151,7 @@ pub first-demand : FirstDemand
 first-demand =
     record {
       check = check-unbroken;
+      show = show-told;
       kind-of-rule = kind-told;
       map-check = λ d o p r e. answers (mapCheckTable d o p) e (map-check-exact d o p);
       row = λ overview detail choice n t part. row-told (chosen choice overview detail) part n t;

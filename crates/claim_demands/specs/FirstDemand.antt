@@ -1,5 +1,5 @@
 -- The first demand: nothing handed over breaks a call. Every open call is proved to end, and has no `requires`; what
--- its promise says is said here in 01's sentences, for whatever it was handed and all that it may answer and leave. An
+-- its promise says is said here in the papers' sentences, for whatever it was handed and all that it may answer and leave. An
 -- exported call promises what the call behind it does. The quoted sentences are of 01.
 use mathlib.Core.Path.{_≡_}
 use mathlib.Core.Logic.{_⊎_}
@@ -9,6 +9,7 @@ use lib.ListN.{length, getD, take, drop}
 use denote.Ref.{RefT, ptr, now}
 use Rattle.tctl.specs.Kind.{Runs, isOf}
 use Rattle.outcome.specs.declared.Outcome.{Outcome}
+use Rattle.outcome.specs.declared.Written.{Written}
 use Rattle.outcome.specs.Refusal.{success}
 use Rattle.outcome.specs.Met.{Unmet}
 use Rattle.chart.specs.Bytes.{stateCount, arrowCount, arrowWords}
@@ -33,19 +34,13 @@ use Rattle.loops.specs.Refusal.{acceptedTable, acceptedRefusal}
 use Rattle.call_map.specs.Refusals.{mapCheckTable, mapRefusal}
 use Rattle.room.specs.Room.{scratchSize}
 use Rattle.call_check.specs.Check.{checkTable, Checked}
+use Rattle.call_show.specs.Show.{Showed}
+use Rattle.claim_demands.specs.Acceptable.{Acceptable}
 use Rattle.claim_demands.specs.Answers.{Answers}
 use Rattle.claim_demands.specs.DetailRule.{Premises}
+use Rattle.claim_demands.specs.ShowTold.{ShowTold}
 
 -- ── Check ──
-
--- what check accepts: an accepted chart, an accepted rule, and room for the marks and for 4n numbers
-pub record Acceptable (chart rule marks scratch : List ℕ) : Type 0 where
-  pub chart-accepted : AcceptedChart chart
-  pub rule-accepted : ruleRefusal rule ≡ success
-  -- not "marks table under k × n bytes"
-  pub table : nodeCount rule * stateCount chart ≤ length marks
-  -- not "scratch under 4n numbers"
-  pub room : scratchSize (stateCount chart) ≤ length scratch
 
 -- what check answers and leaves, whatever it was handed
 pub record Unbroken (chart rule marks scratch : List ℕ) (r : Outcome) (newMarks newScratch : List ℕ) : Type 0 where
@@ -130,6 +125,11 @@ pub record FirstDemand : Type 0 where
       (chart rule marks scratch : List ℕ) (r : Outcome) (newMarks newScratch : List ℕ) →
       Checked chart rule marks scratch r newMarks newScratch →
       Unbroken chart rule marks scratch r newMarks newScratch
+  pub show :
+      (chart rule marks scratch : List ℕ) (node state : ℕ) (output : List ℕ) (r : Written)
+      (newMarks newScratch newOutput : List ℕ) →
+      Showed chart rule marks scratch node state output r newMarks newScratch newOutput →
+      ShowTold chart rule marks scratch node state output r newMarks newScratch newOutput
   pub kind-of-rule : (rule : List ℕ) (r : KindAnswer) → Answered rule r → KindTold rule r
   -- "Map check tests the detail chart .., then the overview .., then 20 to 23."
   pub map-check :

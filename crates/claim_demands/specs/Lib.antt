@@ -1,4 +1,6 @@
+pub mod Acceptable
 pub mod Answers
+pub mod ShowTold
 pub mod FirstDemand
 pub mod SecondDemand
 pub mod DetailRule

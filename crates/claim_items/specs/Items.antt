@@ -1,7 +1,8 @@
 -- The thirteen items of 01, "Two charts to try".
 use mathlib.Core.List.{List, [], _∷_, _++_}
 use Prim.Native.Nat.{ℕ}
-use Rattle.claim_items.specs.Write.{wordBytes, arrow, chart, node, rule}
+use Rattle.append.specs.BigEndian.{wordBytes}
+use Rattle.claim_items.specs.Write.{arrow, chart, node, rule}
 
 -- "Short: states 0, 1, 2 with labels 0, 1, 2; arrows 0→1 of 5 to 10, 1→2 of 0 to 4, 2→0 of 20 to no end."
 abbrev pub short : List ℕ

@@ -8,7 +8,8 @@ use lib.Dec.{eqb}
 use Rattle.outcome.specs.declared.Outcome.{Outcome}
 use Rattle.call_map.specs.Refusals.{mapRefusal}
 use Rattle.call_check.specs.Check.{checkRefusal}
-use Rattle.claim_items.specs.Write.{wordBytes, arrow, chart, node, rule, map}
+use Rattle.append.specs.BigEndian.{wordBytes}
+use Rattle.claim_items.specs.Write.{arrow, chart, node, rule, map}
 use Rattle.claim_items.specs.Items.{short, trueUntil, A, atMost}
 
 -- bytes, and the number and the place that are answered: 0 and 0 if they are accepted

@@ -1,17 +1,14 @@
 -- Charts, rules and maps written as bytes (01, "Bytes of a chart, a rule and a map").
-use mathlib.Core.List.{List, [], _∷_, _++_}
-use Prim.Native.Nat.{ℕ, _+_, _/_, _%_}
+use mathlib.Core.List.{List, _∷_, _++_}
+use Prim.Native.Nat.{ℕ, _+_}
 use lib.ListN.{length}
-
--- "Numbers are big-endian."
-abbrev pub wordBytes : ℕ → List ℕ
-wordBytes w = w / 256 ∷ w % 256 ∷ []
+use Rattle.append.specs.BigEndian.{wordBytes, longBytes}
 
 -- "Byte 0 is the version, 1. Bytes 1 to 4 give the length of the whole, these five bytes included."
 abbrev pub headed : List ℕ → List ℕ
 headed body =
     let l = length body + 5 in
-    1 ∷ wordBytes (l / 65536) ++ wordBytes (l % 65536) ++ body
+    1 ∷ longBytes l ++ body
 
 -- "8 bytes: start, end, fewest, most"
 abbrev pub arrow : ℕ → ℕ → ℕ → ℕ → List ℕ

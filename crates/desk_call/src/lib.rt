@@ -2,7 +2,7 @@
 ghost use Prim.Native.Nat.{_+_, _*_, _≤_};
 ghost use lib.ListN.{length, take};
 ghost use Rattle.io.specs.Counts.{Counts};
-ghost use Rattle.listing.specs.Text.{Shown};
+ghost use Rattle.append.specs.Piece.{AtFront};
 ghost use Rattle.desk_call.specs.Files.{Files};
 ghost use Rattle.desk_call.specs.Printed.{printed};
 
@@ -35,7 +35,7 @@ pub fn read(name: &[u8], space: &mut [u8]) -> usize
 // The text that is printed of a chart and a rule, put into out.
 fn report(chart: &[u8], rule: &[u8], out: &mut [u8]) -> usize
     requires { ⌜ 20 + 64 * 260 ≤ length (now out) ⌝ }
-    ensures { λ r. ⌜ Shown (printed (now (chart .entry)) (now (rule .entry))) r (now (out .entry)) (now (out .exit)) ⌝ }
+    ensures { λ r. ⌜ AtFront (printed (now (chart .entry)) (now (rule .entry))) r (now (out .entry)) (now (out .exit)) ⌝ }
 {
     let mut marks = [0; MARKS];
     let mut scratch = [0; SCRATCH];
@@ -51,7 +51,7 @@ fn report(chart: &[u8], rule: &[u8], out: &mut [u8]) -> usize
 // The same of two files, of which i bytes of the chart and j of the rule were read.
 fn report_files(chart: &[u8], i: usize, rule: &[u8], j: usize, out: &mut [u8]) -> usize
     requires { ⌜ Files (now chart) i (now rule) j × (20 + 64 * 260 ≤ length (now out)) ⌝ }
-    ensures { λ r. ⌜ Shown (printed (take i (now (chart .entry))) (take j (now (rule .entry)))) r
+    ensures { λ r. ⌜ AtFront (printed (take i (now (chart .entry))) (take j (now (rule .entry)))) r
         (now (out .entry)) (now (out .exit)) ⌝ }
 {
     report(&chart[..i], &rule[..j], out)

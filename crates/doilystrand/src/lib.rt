@@ -4,6 +4,7 @@ ghost use mathlib.Core.Path.{_≡_};
 ghost use Rattle.call_row.specs.Row.{placeOf};
 ghost use Rattle.call_map.specs.Refusals.{mapRefusal};
 ghost use Rattle.call_check.specs.Check.{Checked};
+ghost use Rattle.call_show.specs.Show.{Showed};
 ghost use Rattle.call_reader.specs.Reading.{handed};
 ghost use Rattle.coded.specs.Coded.{Coded, sizeOf, codedArrow};
 use call_reader::Handed;
@@ -11,6 +12,7 @@ use call_row::Place;
 use coded::CodedAnswer;
 use coded::CodedArrow;
 use outcome::Outcome;
+use outcome::Written;
 
 #[no_mangle]
 pub extern "C" fn doilystrand_check(
@@ -23,6 +25,22 @@ pub extern "C" fn doilystrand_check(
         r (now (marks .exit)) (now (scratch .exit)) ⌝ }
 {
     call_check::check(chart, rule, marks, scratch)
+}
+
+#[no_mangle]
+pub extern "C" fn doilystrand_show(
+    chart: &[u8],
+    rule: &[u8],
+    marks: &mut [u8],
+    scratch: &mut [u32],
+    node: usize,
+    state: usize,
+    output: &mut [u8],
+) -> Written
+    ensures { λ r. ⌜ Showed (now (chart .entry)) (now (rule .entry)) (now (marks .entry)) (now (scratch .entry)) node state
+        (now (output .entry)) r (now (marks .exit)) (now (scratch .exit)) (now (output .exit)) ⌝ }
+{
+    call_show::show(chart, rule, marks, scratch, node, state, output)
 }
 
 #[no_mangle]

@@ -8,7 +8,7 @@ use lib.ListN.{length, set}
 use Rattle.tctl.specs.Chart.{Arrow, Most, states}
 use Rattle.base.specs.Tabulate.{tabulate}
 use Rattle.tctl.proofs.Drawn.{Drawn}
-use Rattle.model.specs.Engine.{num, rounds, offer, raise, greatest, raised}
+use Rattle.model.specs.Engine.{num, rounds, offer, raise, greatest, raised, gain}
 use Rattle.model.specs.Weighed.{weight, weighing, weighed, weighedChart}
 use Rattle.model.proofs.Numbers.{tabulate-num}
 use Rattle.model.proofs.RoundLaws.{rounds-map}
@@ -22,7 +22,7 @@ use Rattle.chart.proofs.Chart.{arrow-mem, arrow-of}
 use Rattle.chart.proofs.Reading.{has-states, drawn}
 use Rattle.ways.specs.declared.Climb.{Climb}
 use Rattle.ways.specs.declared.Way.the-variants.{Raise}
-use Rattle.ways.specs.Way.{ceilingOf, leapsOf, gain, offerOf, reachedOf}
+use Rattle.ways.specs.Way.{ceilingOf, leapsOf, offerOf, reachedOf}
 use Rattle.visits.specs.Moves.{arrowAt, Held, Moved, none, more, leap}
 
 -- what is offered, is offered from a number above 0

@@ -6,8 +6,8 @@ use native.Mathlib.Omega.{arith}
 use lib.ListN.{length, getD, take, length-append}
 use lib.Seq.{take-suc, take-length}
 use Rattle.listing.specs.Text.{joined}
-use Rattle.listing.specs.Piece.{Room, Appended}
-use Rattle.listing.proofs.Append.{appended-none, appended-both, room-second}
+use Rattle.append.specs.Piece.{Room, Appended}
+use Rattle.append.proofs.Append.{appended-none, appended-both, room-second}
 
 pub joined-none : (f : ℕ → List ℕ) {at : ℕ} {old : List ℕ} → Appended at (joined 0 f) at old old
 unfolding joined

@@ -1,4 +1,3 @@
-pub mod Append
 pub mod Joined
 pub mod Rows
 pub mod Decimal

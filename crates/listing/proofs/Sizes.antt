@@ -5,7 +5,7 @@ use native.Mathlib.Omega.{arith}
 use lib.ListN.{length, getD, length-append}
 use Rattle.listing.specs.Text.{statesWord, nodesWord, refusedWord, atWord, space, newline}
 use Rattle.listing.specs.Text.{decimal, joined, markDigit, markLine, nodeLine, twoNumbers, listing, refusedLine}
-use Rattle.listing.specs.Piece.{Room}
+use Rattle.append.specs.Piece.{Room}
 use Rattle.listing.proofs.Joined.{joined-size}
 use Rattle.listing.proofs.Decimal.{decimal-size}
 

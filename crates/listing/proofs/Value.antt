@@ -7,11 +7,7 @@ use native.Mathlib.Omega.{arith}
 use lib.Dec.{ltb}
 use borrow.Author.Tests.{ltb-true, ltb-false}
 use Rattle.listing.specs.Text.{digitsBy, decimal}
-
--- the number that digits stand for, where those before them stand for `high`
-abbrev pub readAs : ℕ → List ℕ → ℕ
-readAs high [] = high
-readAs high (d ∷ s) = readAs (high * 10 + (d - 48)) s
+use Rattle.listing.specs.Value.{readAs}
 
 value-append : (high : ℕ) (s : List ℕ) (d : ℕ) → readAs high (s ++ d ∷ []) ≡ readAs high s * 10 + (d - 48)
 value-append high [] d = refl

@@ -1,9 +1,8 @@
 -- The text that the desk program prints, as a list of bytes. The quoted sentences are of 01, on the desk program.
-use mathlib.Core.Path.{_≡_}
 use mathlib.Core.Bool.{cond}
 use mathlib.Core.List.{List, [], _∷_, _++_}
 use Prim.Native.Nat.{ℕ, zero, suc, _+_, _*_, _/_, _%_}
-use lib.ListN.{length, getD, drop}
+use lib.ListN.{getD}
 use lib.Dec.{eqb, ltb}
 
 -- "states "
@@ -67,8 +66,3 @@ listing n k marks = twoNumbers statesWord n nodesWord k ++ newline ++ joined k (
 -- "A refusal is the one line "refused 9 at 2": number, then place."
 unfoldable pub refusedLine : ℕ → ℕ → List ℕ
 refusedLine number place = twoNumbers refusedWord number atWord place ++ newline
-
--- the first r bytes are the text, the others as they were
-pub record Shown (text : List ℕ) (r : ℕ) (old new : List ℕ) : Type 0 where
-  pub end : r ≡ length text
-  pub bytes : new ≡ text ++ drop (length text) old

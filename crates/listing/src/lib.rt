@@ -1,29 +1,20 @@
 // The text of a result, written into a lent buffer piece by piece.
 ghost use mathlib.Core.Path.{_≡_};
-ghost use mathlib.Core.List.{[], _∷_};
 ghost use Prim.Native.Nat.{_+_, _*_, _%_, _≤_};
 ghost use lib.ListN.{length};
 ghost use Rattle.listing.specs.Text.{decimal, joined, markLine, nodeLine, twoNumbers};
-ghost use Rattle.listing.specs.Text.{listing, refusedLine, Shown};
+ghost use Rattle.listing.specs.Text.{listing, refusedLine};
 ghost use Rattle.listing.specs.Text.{markDigit};
-ghost use Rattle.listing.specs.Piece.{Room, Appended};
+ghost use Rattle.append.specs.Piece.{Room, Appended, AtFront};
 
-fn put(byte: u8, at: usize, out: &mut [u8]) -> usize
-    requires { ⌜ Room at (byte ∷ []) (now out) ⌝ }
-    ensures { λ r. ⌜ Appended at (byte ∷ []) r (now (out .entry)) (now (out .exit)) ⌝ }
-{
-    out[at] = byte;
-    at + 1
-}
-
-fn put_word(word: &[u8], at: usize, out: &mut [u8]) -> usize
+pub fn put_word(word: &[u8], at: usize, out: &mut [u8]) -> usize
     requires { ⌜ Room at (now word) (now out) ⌝ }
     ensures { λ r. ⌜ Appended at (now (word .entry)) r (now (out .entry)) (now (out .exit)) ⌝ }
 {
     let mut end = at;
     let mut i = 0;
     while i < word.len() {
-        end = put(word[i], end, out);
+        end = append::put(word[i], end, out);
         i += 1;
     }
     end
@@ -36,15 +27,15 @@ fn digit(x: usize) -> u8
     48 + (x % 10) as u8
 }
 
-fn put_number(x: usize, at: usize, out: &mut [u8]) -> usize
+pub fn put_number(x: usize, at: usize, out: &mut [u8]) -> usize
     requires { ⌜ Room at (decimal x) (now out) ⌝ }
     ensures { λ r. ⌜ Appended at (decimal x) r (now (out .entry)) (now (out .exit)) ⌝ }
 {
     if x < 10 {
-        return put(digit(x), at, out);
+        return append::put(digit(x), at, out);
     }
     let end = put_number(x / 10, at, out);
-    put(digit(x), end, out)
+    append::put(digit(x), end, out)
 }
 
 fn mark_digit(byte: u8) -> u8
@@ -63,7 +54,7 @@ fn put_marks(marks: &[u8], start: usize, n: usize, at: usize, out: &mut [u8]) ->
     let mut end = at;
     let mut s = 0;
     while s < n {
-        end = put(mark_digit(marks[start + s]), end, out);
+        end = append::put(mark_digit(marks[start + s]), end, out);
         s += 1;
     }
     end
@@ -74,9 +65,9 @@ fn put_node(n: usize, marks: &[u8], t: usize, at: usize, out: &mut [u8]) -> usiz
     ensures { λ r. ⌜ Appended at (nodeLine n (now (marks .entry)) t) r (now (out .entry)) (now (out .exit)) ⌝ }
 {
     let numbered = put_number(t, at, out);
-    let spaced = put(b' ', numbered, out);
+    let spaced = append::put(b' ', numbered, out);
     let marked = put_marks(marks, t * n, n, spaced, out);
-    put(b'\n', marked, out)
+    append::put(b'\n', marked, out)
 }
 
 fn put_nodes(n: usize, k: usize, marks: &[u8], at: usize, out: &mut [u8]) -> usize
@@ -106,18 +97,18 @@ fn put_numbers(first: &[u8], x: usize, second: &[u8], y: usize, out: &mut [u8]) 
 // The listing of k nodes at n states: at most 20 bytes in the first line, and 260 in each other.
 pub fn list(n: usize, k: usize, marks: &[u8], out: &mut [u8]) -> usize
     requires { ⌜ (n ≤ 256) × (k ≤ 64) × (k * n ≤ length (now marks)) × (20 + 64 * 260 ≤ length (now out)) ⌝ }
-    ensures { λ r. ⌜ Shown (listing n k (now (marks .entry))) r (now (out .entry)) (now (out .exit)) ⌝ }
+    ensures { λ r. ⌜ AtFront (listing n k (now (marks .entry))) r (now (out .entry)) (now (out .exit)) ⌝ }
 {
     let counted = put_numbers(b"states ", n, b" nodes ", k, out);
-    let end = put(b'\n', counted, out);
+    let end = append::put(b'\n', counted, out);
     put_nodes(n, k, marks, end, out)
 }
 
 // The line of a refusal: at most 33 bytes.
 pub fn refuse(number: u32, place: u32, out: &mut [u8]) -> usize
     requires { ⌜ 33 ≤ length (now out) ⌝ }
-    ensures { λ r. ⌜ Shown (refusedLine number place) r (now (out .entry)) (now (out .exit)) ⌝ }
+    ensures { λ r. ⌜ AtFront (refusedLine number place) r (now (out .entry)) (now (out .exit)) ⌝ }
 {
     let placed = put_numbers(b"refused ", number as usize, b" at ", place as usize, out);
-    put(b'\n', placed, out)
+    append::put(b'\n', placed, out)
 }

@@ -8,3 +8,4 @@ pub mod Decided
 pub mod Row
 pub mod Chain
 pub mod Accepted
+pub mod Scratch

@@ -9,6 +9,13 @@ pub struct Outcome {
     pub place: u32,
 }
 
+// What a call with one output answers: its outcome, and how many bytes it wrote, 0 on a refusal.
+#[repr(C)]
+pub struct Written {
+    pub outcome: Outcome,
+    pub written: usize,
+}
+
 pub fn accepted() -> Outcome
     ensures { λ r. ⌜ r ≡ success ⌝ }
 {
@@ -24,7 +31,7 @@ pub fn refused(number: u32, place: u32) -> Outcome
     Outcome { number, place }
 }
 
-// The numbers of 01's table. Of a head, three in a row: too short, another version, a stated length that is not the real
+// The numbers of 01's table, and 02's. Of a head, three in a row: too short, another version, a stated length that is not the real
 // one.
 pub const CHART_HEAD: u32 = 1;
 
@@ -63,6 +70,12 @@ pub const NO_OVERVIEW_STATE: u32 = 21;
 pub const LABELS_DIFFER: u32 = 22;
 
 pub const NOT_COVERED: u32 = 23;
+
+pub const NOT_SHOWABLE: u32 = 60;
+
+pub const TABLE_SCRATCH: u32 = 61;
+
+pub const NO_RUN_FITS: u32 = 62;
 
 // What is added to a chart's number if it is the overview's.
 pub const OVERVIEW: u32 = 40;

@@ -9,13 +9,14 @@ use lib.Dec.{ltb}
 use borrow.Author.Tests.{lt-ltb, le-ltb}
 use Rattle.base.proofs.Truth.{cond-elim}
 use Rattle.tctl.specs.Chart.{Arrow, Most}
+use Rattle.model.specs.Engine.{gain}
 use Rattle.model.specs.Weighed.{weight}
 use Rattle.model.proofs.Raise.{offer-le, offer-mono}
 use Rattle.chart.specs.declared.ArrowWords.{ArrowWords}
 use Rattle.ways.specs.declared.Climb.{Climb}
 use Rattle.ways.specs.declared.Way.{Way}
 use Rattle.ways.specs.declared.Way.the-variants.{Lower, Raise}
-use Rattle.ways.specs.Way.{ceilingOf, leapsOf, gain, offerOf, reachedOf, Increased, Offers, Beats}
+use Rattle.ways.specs.Way.{ceilingOf, leapsOf, offerOf, reachedOf, Increased, Offers, Beats}
 
 gain-mono : (cap : ℕ) (most : Most) (v w : ℕ) → v ≤ w → gain cap most v ≤ gain cap most w
 gain-mono cap most zero w l = omega arith

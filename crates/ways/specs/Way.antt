@@ -3,10 +3,10 @@ use mathlib.Core.Path.{_≡_}
 use mathlib.Core.Bool.{Bool, false, cond, _&&_}
 use mathlib.Core.Bool.{not as neg}
 use mathlib.Core.List.{List, map}
-use Prim.Native.Nat.{ℕ, zero, suc, _+_, _-_, _≤_, _<_, min}
+use Prim.Native.Nat.{ℕ, _+_, _-_, _≤_, _<_, min}
 use lib.Dec.{ltb}
-use Rattle.tctl.specs.Chart.{Arrow, Most}
-use Rattle.model.specs.Engine.{offer}
+use Rattle.tctl.specs.Chart.{Arrow}
+use Rattle.model.specs.Engine.{offer, gain}
 use Rattle.model.specs.Weighed.{weight}
 use Rattle.chart.specs.declared.ArrowWords.{ArrowWords}
 use Rattle.chart.specs.Bytes.{mostOf, arrowOf}
@@ -40,11 +40,6 @@ Fits (Raise climb) = climb .cap ≤ highest
 unfoldable pub leapsOf : Way → Bool
 leapsOf Lower = false
 leapsOf (Raise climb) = climb .leap
-
--- from the number 0 there is no offer
-abbrev pub gain : ℕ → Most → ℕ → ℕ
-gain cap most zero = 0
-gain cap most (suc v) = offer cap most (suc v)
 
 -- what an arrow offers its start, from its end's number
 unfoldable pub offerOf : Way → Arrow → ℕ → ℕ

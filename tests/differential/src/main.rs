@@ -3,12 +3,13 @@
 //! Without options: the named cases of the paper, large charts, then 400,000 random cases with a fixed seed.
 //! `--long [COUNT]` runs more (5,000,000), `--seed S` others, `--case I` one by its number, `--named I` one of the
 //! named and large ones by its number, `--replay CASE` the one whose line a difference printed. The status is 1 if
-//! anything differs or a number of the refusal table was never met, 2 if the options are wrong.
+//! anything differs, or a number of the refusal table or what a shown run can be was never met, 2 if the options are wrong.
 //!
-//! `--programs DIR` runs the programs desk and desk_test_calls of that folder instead and compares all they print with the
-//! oracle's texts: on the named pairs of files, then on 300 random ones with a fixed seed. The other options are the same,
-//! for pairs of files; `--long` runs 10,000. The status is 1 too if the random pairs did not lead to listings and to
-//! refusals, to rows that are found and to empty ones, and 2 if a program is not there.
+//! `--programs DIR` runs the programs desk, desk_test_calls and desk_why of that folder instead and compares all they print
+//! with the oracle's texts, or has the oracle judge it where several runs are right: on the named pairs of files, then on
+//! 300 random ones with a fixed seed. The other options are the same, for pairs of files; `--long` runs 10,000. The status
+//! is 1 too if the random pairs did not lead to listings, runs and refusals, to rows that are found and to empty ones, and
+//! 2 if a program is not there.
 //!
 //! The file that the variable DIFFERENTIAL_LAST names, if it is set, holds the options of the case under way.
 

@@ -15,6 +15,13 @@ impl Outcome {
     }
 }
 
+/// What a call with one output answers: the bytes written are 0 on a refusal.
+#[derive(Clone, Copy, Debug, PartialEq, Eq)]
+pub struct Written {
+    pub outcome: Outcome,
+    pub written: usize,
+}
+
 #[derive(Clone, Copy, Debug, PartialEq, Eq)]
 pub enum Kind {
     AllRuns,

@@ -16,6 +16,10 @@ impl Leaving {
         Leaving { arrows, first }
     }
 
+    pub fn state_count(&self) -> usize {
+        self.first.len() - 1
+    }
+
     pub fn state(&self, state: usize) -> &[Arrow] {
         &self.arrows[self.first[state]..self.first[state + 1]]
     }

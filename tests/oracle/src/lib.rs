@@ -1,33 +1,48 @@
-//! Check, kind of rule, map check, row and chart reader, written from the scope paper alone.
+//! Check, shown run, kind of rule, map check, row and chart reader, written from the customer's papers alone.
 //!
-//! Untils are settled by fixpoints over pairs of a state and a minute; nothing here measures a path.
+//! Untils are settled by fixpoints over pairs of a state and a minute, and runs are searched for over the same pairs;
+//! nothing here measures a path. Where the papers leave a result free, a judge says whether somebody's is right.
 
 mod answers;
+mod asked;
 mod bytes;
 mod calls;
 mod chart;
 mod chart_rows;
 mod check;
 mod desk;
+mod judge_run;
+mod judge_show;
+mod judge_why;
 mod kind;
 mod leaving;
 mod loops;
 mod map_check;
 mod map_rows;
 mod members;
+mod position;
 mod reader;
 mod refusals;
 mod row;
 mod rule;
 mod rule_rows;
+mod search;
 mod settle;
+mod show;
 mod until;
+mod unvisited;
+mod why;
 
-pub use answers::{ArrowWords, Choice, Kind, KindAnswer, Outcome};
+pub use answers::{ArrowWords, Choice, Kind, KindAnswer, Outcome, Written};
 pub use calls::{calls_text, ASK_READ};
 pub use check::check;
 pub use desk::{listing, refused_line, CHART_READ, RULE_READ};
+pub use judge_run::judge_run;
+pub use judge_show::{judge_show, ShowCall};
+pub use judge_why::judge_why;
 pub use kind::kind_of_rule;
 pub use map_check::map_check;
 pub use reader::{arrow, Reader};
 pub use row::row;
+pub use show::{fewest_steps, show};
+pub use why::why_text;

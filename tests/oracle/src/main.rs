@@ -1,34 +1,57 @@
 //! The calls from a command line.
 
-use oracle::{calls_text, kind_of_rule, listing, map_check, refused_line, Kind, ASK_READ, CHART_READ, RULE_READ};
+use oracle::{calls_text, judge_why, kind_of_rule, listing, map_check, refused_line, why_text, Kind};
+use oracle::{ASK_READ, CHART_READ, RULE_READ};
 use std::ffi::{OsStr, OsString};
 use std::fs::File;
 use std::io::{Read, Write};
 use std::process::ExitCode;
 
 const USAGE: &str = "usage: oracle check CHART RULE | oracle kind RULE | oracle map DETAIL OVERVIEW MAP
-       oracle calls CHART RULE ASK";
+       oracle calls CHART RULE ASK | oracle why CHART RULE NODE STATE
+       oracle judge-why CHART RULE NODE STATE TEXT";
 
 fn main() -> ExitCode {
     let words: Vec<OsString> = std::env::args_os().skip(1).collect();
-    let Some(text) = answer(&words) else {
-        eprintln!("{USAGE}");
-        return ExitCode::from(2);
-    };
-    match std::io::stdout().write_all(text.as_bytes()) {
-        Ok(()) => ExitCode::SUCCESS,
-        Err(_) => ExitCode::FAILURE,
+    match answer(&words) {
+        Some(Ok(text)) => match std::io::stdout().write_all(text.as_bytes()) {
+            Ok(()) => ExitCode::SUCCESS,
+            Err(_) => ExitCode::FAILURE,
+        },
+        Some(Err(wrong)) => {
+            eprintln!("{wrong}");
+            ExitCode::FAILURE
+        }
+        None => {
+            eprintln!("{USAGE}");
+            ExitCode::from(2)
+        }
     }
 }
 
-fn answer(words: &[OsString]) -> Option<String> {
-    let (call, files) = words.split_first()?;
-    match (call.to_str()?, files) {
+/// What is printed, or what a judge finds wrong; None asks for the usage.
+fn answer(words: &[OsString]) -> Option<Result<String, String>> {
+    let (call, given) = words.split_first()?;
+    match (call.to_str()?, given) {
+        ("judge-why", [chart, rule, node, state, text]) => {
+            let (chart, rule, text) = (read(chart, CHART_READ), read(rule, RULE_READ), whole(text));
+            let judged = judge_why(&chart, &rule, number(node)?, number(state)?, &String::from_utf8_lossy(&text));
+            Some(judged.map(|()| String::new()))
+        }
+        (call, given) => printed(call, given).map(Ok),
+    }
+}
+
+fn printed(call: &str, given: &[OsString]) -> Option<String> {
+    match (call, given) {
         ("check", [chart, rule]) => Some(listing(&read(chart, CHART_READ), &read(rule, RULE_READ))),
         ("kind", [rule]) => Some(kind_line(&whole(rule))),
         ("map", [detail, overview, map]) => Some(map_line(&whole(detail), &whole(overview), &whole(map))),
         ("calls", [chart, rule, ask]) => {
             Some(calls_text(&read(chart, CHART_READ), &read(rule, RULE_READ), &read(ask, ASK_READ)))
+        }
+        ("why", [chart, rule, node, state]) => {
+            Some(why_text(&read(chart, CHART_READ), &read(rule, RULE_READ), number(node)?, number(state)?))
         }
         _ => None,
     }
@@ -55,7 +78,11 @@ fn map_line(detail: &[u8], overview: &[u8], map: &[u8]) -> String {
     }
 }
 
-/// Only the reading of the two programs has a bound.
+fn number(word: &OsStr) -> Option<usize> {
+    word.to_str()?.parse().ok()
+}
+
+/// Only the reading of the desk's programs has a bound.
 fn whole(path: &OsStr) -> Vec<u8> {
     read(path, usize::MAX)
 }

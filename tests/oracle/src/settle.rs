@@ -2,7 +2,7 @@
 
 use crate::chart::{label_word, state_count};
 use crate::leaving::Leaving;
-use crate::rule::{nodes, Node, AND, AT_MOST, A_UNTIL, LABEL, NOT, OR, TRUE};
+use crate::rule::{nodes, Node, AND, LABEL, NOT, OR, TRUE};
 use crate::until::Until;
 
 /// Fills the first k × n bytes; chart and rule are accepted and the table is long enough.
@@ -27,17 +27,6 @@ fn settle_node(chart: &[u8], leaving: &Leaving, node: &Node, lower: &[u8], row: 
         NOT => each(&|state| operand(node.a)[state] == 0),
         AND => each(&|state| operand(node.a)[state] == 1 && operand(node.b)[state] == 1),
         OR => each(&|state| operand(node.a)[state] == 1 || operand(node.b)[state] == 1),
-        _ => until(leaving, node, operand(node.a), operand(node.b)).settle(row),
-    }
-}
-
-fn until<'a>(leaving: &'a Leaving, node: &Node, p: &'a [u8], q: &'a [u8]) -> Until<'a> {
-    Until {
-        leaving,
-        every: node.operation == A_UNTIL,
-        at_most: node.bound_kind == AT_MOST,
-        c: usize::from(node.c),
-        p,
-        q,
+        _ => Until::of(leaving, node, operand(node.a), operand(node.b)).settle(row),
     }
 }

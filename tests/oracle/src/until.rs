@@ -6,6 +6,7 @@
 use crate::chart::{Arrow, NO_END};
 use crate::leaving::Leaving;
 use crate::members::Members;
+use crate::rule::{Node, AT_MOST, A_UNTIL};
 
 pub struct Until<'a> {
     pub leaving: &'a Leaving,
@@ -16,7 +17,13 @@ pub struct Until<'a> {
     pub q: &'a [u8],
 }
 
-impl Until<'_> {
+impl<'a> Until<'a> {
+    /// The rows are those of the node's operands.
+    pub fn of(leaving: &'a Leaving, node: &Node, p: &'a [u8], q: &'a [u8]) -> Until<'a> {
+        let (every, at_most) = (node.operation == A_UNTIL, node.bound_kind == AT_MOST);
+        Until { leaving, every, at_most, c: usize::from(node.c), p, q }
+    }
+
     /// Marks the states whose pair with minute 0 is in the fixpoint.
     pub fn settle(&self, row: &mut [u8]) {
         let mut members = Members::none(row.len(), self.last());
@@ -31,7 +38,7 @@ impl Until<'_> {
     }
 
     /// The minute that stands for c + 1 or more.
-    fn last(&self) -> usize {
+    pub fn last(&self) -> usize {
         self.c + 1
     }
 
@@ -74,7 +81,7 @@ impl Until<'_> {
     }
 
     /// The minutes at which the arrow can end when taken at minute x.
-    fn window(&self, arrow: &Arrow, x: usize) -> (usize, usize) {
+    pub fn window(&self, arrow: &Arrow, x: usize) -> (usize, usize) {
         let capped = |minutes: u16| self.last().min(x + usize::from(minutes));
         let hi = if arrow.most == NO_END { self.last() } else { capped(arrow.most) };
         (capped(arrow.fewest), hi)

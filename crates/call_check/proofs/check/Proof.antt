@@ -11,7 +11,7 @@ use Rattle.rule.proofs.Accepted.{accepted}
 use Rattle.room.specs.Room.{scratchSize}
 use Rattle.call_check.proofs.Chain.{Admitted, input-passes}
 use Rattle.call_check.proofs.Judgeable.{judgeable}
-use Rattle.call_check.proofs.Scratch.{used-size, used-front, cleared-front}
+use Rattle.loops.proofs.Scratch.{used-size, used-front, cleared-front}
 use Rattle.call_check.proofs.Answers.{refused-checked, judged-checked}
 use borrow.Author.Needs.{needs}
 use Rattle.call_check.proofs.check.Statement.{statement}

@@ -2,7 +2,7 @@
 use Prim.Native.Nat.{_*_, _≤_}
 use native.Mathlib.Omega.{arith}
 use borrow.Author.Needs.{needs}
-use Rattle.listing.proofs.Append.{shown-text}
+use Rattle.append.proofs.Append.{at-front-text}
 use Rattle.desk_call.proofs.Answer.{refusal-printed, listing-printed, chart-formed, rule-shaped, few-marks}
 use Rattle.desk_call.proofs.report.Statement.{statement}
 use Rattle.desk_call.proofs.report.Tie as tie
@@ -39,7 +39,7 @@ returns : tie.Need-returns
 returns c =
     let test = met (refused c) in
     let e = refusal-printed _ _ (check (test .before) .check .ensures) (test .if1 .taken) in
-    shown-text e (refused c .refuse .ensures)
+    at-front-text e (refused c .refuse .ensures)
 
 state-count-requires : tie.Need-state-count-requires
 state-count-requires c κs = chart-formed _ _ (check (c .before) .check .ensures) (c .if1 .left) .head .enough
@@ -70,7 +70,7 @@ returns-2 c =
     let n = counted .before .state-count .ensures .0 in
     let k = counted .node-count .ensures .0 in
     let e = listing-printed _ _ (check (test .before) .check .ensures) (test .if1 .left) n k in
-    shown-text e (listed c .list .ensures)
+    at-front-text e (listed c .list .ensures)
 
 pub report-spec : {M : Type 1} → statement M
 report-spec =

@@ -1,6 +1,6 @@
 -- The buffers have just the room that is asked for, and the counts lie in them.
 use borrow.Author.Needs.{needs}
-use Rattle.listing.proofs.Append.{shown-counts}
+use Rattle.append.proofs.Append.{at-front-counts}
 use Rattle.desk_call.proofs.run.Statement.{statement}
 use Rattle.desk_call.proofs.run.Tie as tie
 
@@ -8,10 +8,10 @@ abbrev reported : tie.After-text3 → tie.After-report-files
 reported c = c .before .before
 
 array-share-prefix-text : tie.Need-array-share-prefix-text
-array-share-prefix-text c = shown-counts (c .before .report-files .ensures) .0
+array-share-prefix-text c = at-front-counts (c .before .report-files .ensures) .0
 
 slice-aggregate-write-all : tie.Need-slice-aggregate-write-all
-slice-aggregate-write-all c = shown-counts (reported c .report-files .ensures) .1
+slice-aggregate-write-all c = at-front-counts (reported c .report-files .ensures) .1
 
 pub run-spec : {M : Type 1} → statement M
 run-spec =

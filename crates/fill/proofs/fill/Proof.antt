@@ -1,19 +1,20 @@
 -- Invariant: the marks before s are written.
-use mathlib.Core.Path.{ap₂, _∙_}
+use mathlib.Core.Path.{refl, ap₂, _∙_}
 use Prim.Native.Nat.{_*_, _≤_, _-_}
 use native.Mathlib.Omega.{arith}
 use native.Mathlib.Nat.{mul-le-mul-right}
 use lib.Dec.{eqb}
-use Rattle.model.specs.Marks.{mark}
+use Rattle.model.specs.Marks.{bit, mark}
+use Rattle.base.specs.Entries.{Entries}
+use Rattle.base.proofs.Entries.{entries-none, entries-more, entries-all}
 use Rattle.fill.specs.Fill.{combine}
-use Rattle.fill.specs.Written.{Written}
-use Rattle.fill.proofs.Written.{written-none, written-more, written-all, row-next}
+use Rattle.fill.proofs.Written.{written, mark-byte, row-next}
 use Rattle.fill.proofs.fill.Statement.{statement}
 use Rattle.fill.proofs.fill.Tie as tie
 
 abbrev Inv-loop : tie.InvT-loop
 Inv-loop connective n t a b marks₀ at left right s₀ marks s =
-    (s ≤ n) × Written (t * n) s (λ v. combine connective (mark n marks₀ a v) (mark n marks₀ b v)) marks₀ marks
+    (s ≤ n) × Entries (t * n) s (λ v. bit (combine connective (mark n marks₀ a v) (mark n marks₀ b v))) marks₀ marks
 
 abbrev μ-loop : tie.MeasureT-loop
 μ-loop connective n t a b marks₀ at left right s₀ marks s = n - s
@@ -44,7 +45,7 @@ mul-right : tie.Need-mul-right Inv-loop μ-loop
 mul-right c = omega (arith, operands c)
 
 loop-holds : tie.Need-loop-holds Inv-loop μ-loop
-loop-holds c = (omega arith, written-none)
+loop-holds c = (omega arith, entries-none)
 
 add-p : tie.Need-add-p Inv-loop μ-loop
 add-p c = omega (arith, operands (entered c))
@@ -66,13 +67,13 @@ loop-again c =
     let p = row-next (begun .pre .1) (in-loop .loop-test .taken) w in
     let q = row-next (begun .pre .2) (in-loop .loop-test .taken) w in
     let e = c .combined .ensures ∙ ap₂ (λ x y. combine (begun .args .connective) (eqb x 1) (eqb y 1)) p q in
-    (omega arith, written-more w (omega arith) e)
+    (omega arith, entries-more w refl (omega arith) (mark-byte e))
 
 same-length : tie.Need-same-length Inv-loop μ-loop
 same-length c = c .before .loop .inv .1 .size
 
 returns : tie.Need-returns Inv-loop μ-loop
-returns c = written-all (omega arith) (c .before .loop .inv .1)
+returns c = written _ (entries-all (omega arith) (c .before .loop .inv .1))
 
 pub fill-spec : {M : Type 1} → statement M
 fill-spec =

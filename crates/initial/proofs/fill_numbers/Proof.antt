@@ -8,7 +8,7 @@ use Rattle.model.specs.Engine.{num}
 use Rattle.model.specs.Marks.{mark}
 use Rattle.hints.specs.Values.{sided, testedOf}
 use Rattle.initial.specs.Initial.{oneOf}
-use Rattle.fill.proofs.Written.{set-more}
+use Rattle.base.proofs.Entries.{set-more}
 use Rattle.initial.proofs.fill_numbers.Statement.{statement}
 use Rattle.initial.proofs.fill_numbers.Tie as tie
 

@@ -5,13 +5,13 @@ use borrow.Author.Needs.{needs}
 use Prim.Native.Nat.{ℕ, _<_}
 use borrow.Fn.Kinds.{In, Out}
 use borrow.Fn.PlainCycle.{Measures, is, falls, and}
-use Rattle.listing.proofs.Append.{appended-text, appended-both, room-text, room-first, room-second}
+use Rattle.append.proofs.put.Reads as put-reads
+use Rattle.append.proofs.Append.{appended-text, appended-both, room-text, room-first, room-second}
 use Rattle.listing.proofs.Decimal.{decimal-last, decimal-more}
 use Rattle.listing.proofs.put_number.Reads as put-number
 use Rattle.listing.proofs.put_number.Kinds as put-number-kinds
 use Rattle.listing.proofs.+put_number.Lts-put_number as lts
 use Rattle.listing.proofs.digit.Reads as digit-reads
-use Rattle.listing.proofs.put.Reads as put-reads
 use Rattle.listing.proofs.+put_number.{statement}
 use Rattle.listing.proofs.+put_number.Tie.{close}
 

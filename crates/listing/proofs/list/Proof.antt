@@ -2,8 +2,8 @@
 use borrow.Author.Needs.{needs}
 use denote.Ref.{now}
 use Rattle.listing.specs.Text.{newline, listing}
-use Rattle.listing.specs.Piece.{Room}
-use Rattle.listing.proofs.Append.{appended-both, room-first, room-second, shown}
+use Rattle.append.specs.Piece.{Room}
+use Rattle.append.proofs.Append.{appended-both, room-first, room-second, at-front}
 use Rattle.listing.proofs.Sizes.{listing-room}
 use Rattle.listing.proofs.list.Statement.{statement}
 use Rattle.listing.proofs.list.Tie as tie
@@ -46,7 +46,7 @@ returns c =
     let ended = line (lines c .before) in
     let two = counts (ended .before) in
     let first = appended-both (two .put-numbers .ensures) (ended .put .ensures) in
-    shown (room (start (two .before))) (appended-both first (lines c .put-nodes .ensures))
+    at-front (room (start (two .before))) (appended-both first (lines c .put-nodes .ensures))
 
 pub list-spec : {M : Type 1} → statement M
 list-spec =

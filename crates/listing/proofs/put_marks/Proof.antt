@@ -6,8 +6,8 @@ use native.Mathlib.Omega.{arith}
 use borrow.Author.Needs.{needs}
 use denote.Ref.{now}
 use Rattle.listing.specs.Text.{markLine}
-use Rattle.listing.specs.Piece.{Appended}
-use Rattle.listing.proofs.Append.{appended-size, appended-text}
+use Rattle.append.specs.Piece.{Appended}
+use Rattle.append.proofs.Append.{appended-size, appended-text}
 use Rattle.listing.proofs.Joined.{joined-none, joined-more, joined-room}
 use Rattle.listing.proofs.put_marks.Statement.{statement}
 use Rattle.listing.proofs.put_marks.Tie as tie

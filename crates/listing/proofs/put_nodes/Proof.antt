@@ -4,8 +4,8 @@ use Prim.Native.Nat.{ℕ, _≤_, _-_}
 use native.Mathlib.Omega.{arith}
 use denote.Ref.{now}
 use Rattle.listing.specs.Text.{joined, nodeLine}
-use Rattle.listing.specs.Piece.{Appended}
-use Rattle.listing.proofs.Append.{appended-size, appended-text}
+use Rattle.append.specs.Piece.{Appended}
+use Rattle.append.proofs.Append.{appended-size, appended-text}
 use Rattle.listing.proofs.Joined.{joined-none, joined-more, joined-room}
 use Rattle.listing.proofs.Rows.{row-inside}
 use Rattle.listing.proofs.put_nodes.Statement.{statement}

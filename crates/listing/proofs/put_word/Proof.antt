@@ -5,8 +5,8 @@ use native.Mathlib.Omega.{arith}
 use lib.ListN.{length}
 use denote.Ref.{now}
 use Rattle.listing.specs.Text.{joined}
-use Rattle.listing.specs.Piece.{Appended}
-use Rattle.listing.proofs.Append.{appended-size, appended-text, room-text}
+use Rattle.append.specs.Piece.{Appended}
+use Rattle.append.proofs.Append.{appended-size, appended-text, room-text}
 use Rattle.listing.proofs.Joined.{byteAt, joined-none, joined-more, joined-room, joined-bytes}
 use Rattle.listing.proofs.put_word.Statement.{statement}
 use Rattle.listing.proofs.put_word.Tie as tie

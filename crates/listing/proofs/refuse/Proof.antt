@@ -2,8 +2,8 @@
 use borrow.Author.Needs.{needs}
 use denote.Ref.{now}
 use Rattle.listing.specs.Text.{newline, refusedLine}
-use Rattle.listing.specs.Piece.{Room}
-use Rattle.listing.proofs.Append.{appended-both, room-first, room-second, shown}
+use Rattle.append.specs.Piece.{Room}
+use Rattle.append.proofs.Append.{appended-both, room-first, room-second, at-front}
 use Rattle.listing.proofs.Sizes.{refused-room}
 use Rattle.listing.proofs.refuse.Statement.{statement}
 use Rattle.listing.proofs.refuse.Tie as tie
@@ -33,7 +33,7 @@ returns : tie.Need-returns
 unfolding refusedLine
 returns c =
     let two = numbers (line c .before) in
-    shown (room (start (two .before))) (appended-both (two .put-numbers .ensures) (line c .put .ensures))
+    at-front (room (start (two .before))) (appended-both (two .put-numbers .ensures) (line c .put .ensures))
 
 pub refuse-spec : {M : Type 1} → statement M
 refuse-spec =

@@ -26,6 +26,7 @@ pub enum Answer {
     Kind { number: u32, place: u32, kind: Kind },
     Map { number: u32, place: u32 },
     Row(Part),
+    Show { number: u32, place: u32, written: usize, marks: Vec<u8>, scratch: Vec<u32>, output: Vec<u8> },
     Stopped,
 }
 
@@ -36,7 +37,19 @@ impl Answer {
             Answer::Check { number, place, .. } => Some((number, place)),
             Answer::Kind { number, place, .. } => Some((number, place)),
             Answer::Map { number, place } => Some((number, place)),
+            Answer::Show { number, place, .. } => Some((number, place)),
             Answer::Row(_) | Answer::Stopped => None,
+        }
+    }
+
+    /// Which of several runs a show writes is free, so its output is not looked at here; all else has to be equal.
+    fn agrees(&self, other: &Answer) -> bool {
+        match (self, other) {
+            (
+                Answer::Show { number, place, written, marks, scratch, .. },
+                Answer::Show { number: n, place: p, written: w, marks: m, scratch: s, .. },
+            ) => (number, place, written, marks, scratch) == (n, p, w, m, s),
+            _ => self == other,
         }
     }
 }
@@ -55,11 +68,25 @@ fn part_of(table: &[u8], part: &[u8]) -> Part {
     Part::At { offset: at - start, bytes }
 }
 
-/// The same five calls of either program, each with its own types.
+/// Number, place and count of bytes of a show; the wrapper gives a run or a refusal in place of them.
+mod written {
+    pub fn doilystrand(answer: Result<doilystrand::Run, doilystrand::Refusal>) -> (u32, u32, usize) {
+        match answer {
+            Ok(run) => (0, 0, run.bytes().len()),
+            Err(refusal) => (refusal.outcome().number, refusal.outcome().place, 0),
+        }
+    }
+
+    pub fn oracle(answer: oracle::Written) -> (u32, u32, usize) {
+        (answer.outcome.number, answer.outcome.place, answer.written)
+    }
+}
+
+/// The same six calls of either program, each with its own types.
 macro_rules! program {
     ($name:ident) => {
         pub mod $name {
-            use super::{part_of, Answer, Case, Kind, Table};
+            use super::{part_of, written, Answer, Case, Kind, Table};
             use ::$name as program;
 
             fn kind_of(rule: &[u8]) -> Answer {
@@ -108,6 +135,12 @@ macro_rules! program {
                         Answer::Map { number: outcome.number, place: outcome.place }
                     }
                     Case::Row { overview, detail, choice, n, t } => row((overview, detail), *choice, *n, *t),
+                    Case::Show { chart, rule, marks, scratch, node, state, output } => {
+                        let (mut marks, mut scratch, mut output) = (marks.bytes(), scratch.numbers(), output.bytes());
+                        let answer = program::show(chart, rule, &mut marks, &mut scratch, *node, *state, &mut output);
+                        let (number, place, written) = written::$name(answer);
+                        Answer::Show { number, place, written, marks, scratch, output }
+                    }
                 }
             }
         }
@@ -135,6 +168,6 @@ pub fn both(case: &Case) -> Both {
 impl Both {
     pub fn agree(&self) -> bool {
         let wrong = |x: &Answer| matches!(x, Answer::Stopped | Answer::Row(Part::Elsewhere { .. }));
-        !wrong(&self.library) && self.library == self.oracle
+        !wrong(&self.library) && self.library.agrees(&self.oracle)
     }
 }

@@ -4,4 +4,6 @@ pub mod compare;
 pub mod promises;
 pub mod report;
 pub mod run;
+pub mod show_judge;
+pub mod show_met;
 pub mod summary;

@@ -1,7 +1,7 @@
 //! What the paper says of every answer, whatever the case: both programs are held to it.
 
-use crate::cases::case::Case;
 use crate::calls::compare::{Answer, Kind};
+use crate::cases::case::Case;
 
 fn word(bytes: &[u8], at: usize) -> usize {
     match bytes.get(at..at + 2) {
@@ -10,22 +10,48 @@ fn word(bytes: &[u8], at: usize) -> usize {
     }
 }
 
-/// The marks after acceptance: 0 or 1 in the first k × n, the later bytes kept.
-fn marks_kept(number: u32, written: usize, lent: &[u8], marks: &[u8]) -> bool {
-    if number != 0 {
-        return marks == lent;
-    }
+/// The marks: 0 or 1 in those that were written, the later bytes kept.
+fn marks_kept(written: usize, lent: &[u8], marks: &[u8]) -> bool {
     let fits = marks.len() == lent.len() && written <= marks.len();
     fits && marks[..written].iter().all(|&mark| mark <= 1) && marks[written..] == lent[written..]
 }
 
-/// The scratch: its first 4n numbers 0 after acceptance and refusal 19, the rest as lent.
-fn scratch_kept(number: u32, used: usize, lent: &[u32], scratch: &[u32]) -> bool {
-    if number != 0 && number != 19 {
-        return scratch == lent;
+/// The scratch: its first numbers 0, the rest as lent.
+fn scratch_kept(cleared: usize, lent: &[u32], scratch: &[u32]) -> bool {
+    let fits = scratch.len() == lent.len() && cleared <= scratch.len();
+    fits && scratch[..cleared].iter().all(|&x| x == 0) && scratch[cleared..] == lent[cleared..]
+}
+
+/// The output of a show: a run from the state, whose last duration is 0, the later bytes kept; as lent on a refusal.
+fn output_kept(number: u32, state: usize, written: usize, lent: &[u8], output: &[u8]) -> bool {
+    if output.len() != lent.len() || written > output.len() || output[written..] != lent[written..] {
+        return false;
     }
-    let fits = scratch.len() == lent.len() && used <= scratch.len();
-    fits && scratch[..used].iter().all(|&x| x == 0) && scratch[used..] == lent[used..]
+    if number != 0 {
+        return written == 0;
+    }
+    let whole = written > 0 && written % 6 == 0;
+    whole && word(output, 0) == state && output[written - 4..written] == [0; 4]
+}
+
+/// How many marks check writes and how many numbers of scratch it clears.
+fn left_by_check(number: u32, chart: &[u8], rule: &[u8]) -> (usize, usize) {
+    let (n, k) = (word(chart, 5), word(rule, 5));
+    match number {
+        0 => (k * n, 4 * n),
+        19 => (0, 4 * n),
+        _ => (0, 0),
+    }
+}
+
+/// The same of show: past check's own refusals its marks stand.
+fn left_by_show(number: u32, chart: &[u8], rule: &[u8]) -> (usize, usize) {
+    let (marks, numbers) = left_by_check(0, chart, rule);
+    match number {
+        0 | 62 => (marks, 257 * word(chart, 5)),
+        60 | 61 => (marks, numbers),
+        _ => left_by_check(number, chart, rule),
+    }
 }
 
 /// What is broken, if anything is.
@@ -35,14 +61,27 @@ pub fn broken(case: &Case, answer: &Answer) -> Option<&'static str> {
             return Some("success has a place");
         }
     }
+    let buffers = |(written, cleared), (lent, marks): (&[u8], &[u8]), (before, scratch): (&[u32], &[u32])| {
+        if !marks_kept(written, lent, marks) {
+            return Some("marks not kept or not 0 and 1");
+        }
+        (!scratch_kept(cleared, before, scratch)).then_some("scratch not kept or not 0")
+    };
     match (case, answer) {
         (Case::Check { chart, rule, marks, scratch }, Answer::Check { number, marks: m, scratch: s, .. }) => {
-            let (n, k) = (word(chart, 5), word(rule, 5));
-            if !marks_kept(*number, k * n, &marks.bytes(), m) {
-                return Some("marks not kept or not 0 and 1");
+            buffers(left_by_check(*number, chart, rule), (&marks.bytes(), m), (&scratch.numbers(), s))
+        }
+        (
+            Case::Show { chart, rule, marks, scratch, state, output, .. },
+            Answer::Show { number, place, written, marks: m, scratch: s, output: o },
+        ) => {
+            if *number >= 60 && *place != 0 {
+                return Some("60 to 62 have a place");
             }
-            let kept = scratch_kept(*number, 4 * n, &scratch.numbers(), s);
-            (!kept).then_some("scratch not kept or not 0")
+            let run = output_kept(*number, *state, *written, &output.bytes(), o);
+            let left = left_by_show(*number, chart, rule);
+            buffers(left, (&marks.bytes(), m), (&scratch.numbers(), s))
+                .or((!run).then_some("no run from the state, or output not kept"))
         }
         (_, Answer::Kind { number, kind, .. }) => {
             (*number != 0 && *kind != Kind::Neither).then_some("a refused rule has a kind")

@@ -2,8 +2,8 @@
 
 use std::io::Write;
 
-use crate::cases::case::Case;
 use crate::calls::compare::{Answer, Both};
+use crate::cases::case::Case;
 use crate::cases::replay;
 
 /// Prints without stopping if nobody reads.
@@ -34,6 +34,10 @@ fn brief(answer: &Answer) -> String {
         Answer::Check { number, place, marks, scratch, arrows } => {
             let (m, s, a) = (digest(marks), digest(scratch), digest(arrows));
             format!("number {number}, place {place}, marks {m}, scratch {s}, arrows {a}")
+        }
+        Answer::Show { number, place, written, marks, scratch, output } => {
+            let (m, s, o) = (digest(marks), digest(scratch), digest(output));
+            format!("number {number}, place {place}, written {written}, marks {m}, scratch {s}, output {o}")
         }
         other => format!("{other:?}"),
     }

@@ -2,19 +2,21 @@
 
 use std::time::Instant;
 
-use crate::cases::case::Case;
-use crate::calls::compare::{both, Both};
-use crate::random::generate;
-use crate::named::items;
-use crate::named::large;
-use crate::cases::last::{Last, Which};
-use crate::named::expected::Named;
+use crate::calls::compare::{both, Answer, Both};
 use crate::calls::promises;
 use crate::calls::report::{self, say};
+use crate::calls::show_judge;
 use crate::calls::summary::Summary;
+use crate::cases::case::Case;
+use crate::cases::last::{Last, Which};
 use crate::named::charts;
+use crate::named::expected::Named;
+use crate::named::items;
+use crate::named::large;
 use crate::named::maps;
 use crate::named::rules;
+use crate::named::shows;
+use crate::random::generate;
 
 /// The run stops after so many differences.
 pub const SHOWN: u64 = 5;
@@ -26,6 +28,7 @@ fn named() -> Vec<Named> {
     charts::all(&mut list);
     rules::all(&mut list);
     maps::all(&mut list);
+    shows::all(&mut list);
     large::all(&mut list);
     list
 }
@@ -36,7 +39,9 @@ fn difference(case: &Case, answers: &Both) -> Option<String> {
         return Some("the answers differ".into());
     }
     let sides = [("the library", &answers.library), ("the oracle", &answers.oracle)];
-    sides.iter().find_map(|(name, answer)| promises::broken(case, answer).map(|what| format!("{name}: {what}")))
+    let broken = |(name, answer): &(&str, &Answer)| Some(format!("{name}: {}", promises::broken(case, answer)?));
+    let judged = || Some(format!("the library: {}", show_judge::wrong(case, &answers.library)?));
+    sides.iter().find_map(broken).or_else(judged)
 }
 
 fn against_paper(case: &Named, answers: &Both) -> Option<String> {

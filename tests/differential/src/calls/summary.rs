@@ -1,25 +1,34 @@
-//! What was met: numbers per call, marks per operation, kinds of rule.
+//! What was met: numbers per call, marks per operation, kinds of rule, and what the shows met.
 
-use crate::cases::case::{Case, CALLS};
 use crate::calls::compare::{Answer, Kind, Part};
+use crate::calls::show_met::ShowMet;
+use crate::cases::case::{Case, CALLS};
 
-const NUMBERS: usize = 60;
+const NUMBERS: usize = 63;
+/// Places in `CALLS`: the calls that answer a number, and show.
+const NUMBERED: [usize; 4] = [0, 1, 2, SHOW];
+const SHOW: usize = 4;
 const FORMS: [&str; 9] = ["true", "label", "not", "and", "or", "E at most", "E at least", "A at most", "A at least"];
 const KINDS: [Kind; 4] = [Kind::AllRuns, Kind::SomeRun, Kind::Both, Kind::Neither];
 
 /// From this many cases on, the random ones have to meet every number by themselves.
 const ENOUGH: u64 = 200_000;
 
+/// One random case in so many, at least, has to be a show.
+const SHOWS: u64 = 20;
+
 #[derive(Default)]
 pub struct Summary {
-    cases: [u64; 4],
+    cases: [u64; 5],
     random: u64,
     /// Per call and number: named cases, random cases.
-    numbers: Vec<[[u64; 2]; 4]>,
+    numbers: Vec<[[u64; 2]; 5]>,
     /// Per form of a node: marks that are 1, marks in all.
     marks: [[u64; 2]; 9],
     kinds: [u64; 4],
     parts: [u64; 2],
+    /// Of the random ones.
+    shows: ShowMet,
 }
 
 /// The numbers that a call can answer with.
@@ -28,6 +37,7 @@ fn possible(call: usize, number: usize) -> bool {
         0 => number <= 19,
         1 => number == 0 || (10..=16).contains(&number),
         2 => number <= 9 || (19..=23).contains(&number) || (41..=49).contains(&number) || number == 59,
+        SHOW => number <= 19 || (60..=62).contains(&number),
         _ => false,
     }
 }
@@ -44,7 +54,7 @@ fn form(operation: u8, kind: u8) -> usize {
 
 impl Summary {
     pub fn new() -> Summary {
-        Summary { numbers: vec![[[0; 2]; 4]; NUMBERS], ..Summary::default() }
+        Summary { numbers: vec![[[0; 2]; 5]; NUMBERS], ..Summary::default() }
     }
 
     pub fn total(&self) -> u64 {
@@ -66,6 +76,7 @@ impl Summary {
             }
             (_, Answer::Kind { number: 0, kind, .. }) => self.kinds[*kind as usize] += 1,
             (_, Answer::Row(part)) => self.parts[(*part != Part::Empty) as usize] += 1,
+            (Case::Show { .. }, _) if random => self.shows.add(case, answer),
             _ => {}
         }
     }
@@ -85,12 +96,16 @@ impl Summary {
         }
     }
 
-    /// Each number that a call never met, and each form whose marks were all alike.
+    fn random_shows(&self) -> u64 {
+        self.numbers.iter().map(|row| row[SHOW][1]).sum()
+    }
+
+    /// Each number that a call never met, each form whose marks were all alike, and what no show met.
     pub fn missing(&self) -> Vec<String> {
         let strict = self.random >= ENOUGH;
         let mut missing = Vec::new();
         for (number, row) in self.numbers.iter().enumerate() {
-            for call in (0..4).filter(|&call| possible(call, number)) {
+            for call in NUMBERED.into_iter().filter(|&call| possible(call, number)) {
                 let [named, random] = row[call];
                 if named + random == 0 || (strict && random == 0) {
                     missing.push(format!("number {number} of {}", CALLS[call]));
@@ -105,13 +120,20 @@ impl Summary {
                 missing.push(format!("both marks of {form}"));
             }
         }
+        if strict {
+            missing.extend(self.shows.missing().map(|kind| format!("show: {kind}")));
+        }
+        if strict && self.random_shows() * SHOWS < self.random {
+            missing.push(format!("a show in {SHOWS} random cases"));
+        }
         missing
     }
 
     fn coverage(&self) -> String {
-        let mut text = format!("number  {:>14}  {:>12}  {:>12}  named + random\n", "check", "kind", "map");
+        let heads = NUMBERED.map(|call| format!("{:>14}", CALLS[call])).join("");
+        let mut text = format!("number  {heads}  named + random\n");
         for (number, row) in self.numbers.iter().enumerate() {
-            if !(0..3).any(|call| possible(call, number)) {
+            if !NUMBERED.iter().any(|&call| possible(call, number)) {
                 continue;
             }
             let cell = |call: usize| {
@@ -122,7 +144,8 @@ impl Summary {
                     "-".into()
                 }
             };
-            text += &format!("{number:>6}  {:>14}  {:>12}  {:>12}\n", cell(0), cell(1), cell(2));
+            let cells = NUMBERED.map(|call| format!("{:>14}", cell(call))).join("");
+            text += &format!("{number:>6}  {cells}\n");
         }
         text
     }
@@ -137,8 +160,8 @@ impl Summary {
 
     pub fn text(&self) -> String {
         let mut text = self.coverage() + &self.shares();
-        for (call, accepted) in self.numbers[0].iter().enumerate().take(3) {
-            let (accepted, all) = (accepted.iter().sum(), self.cases[call]);
+        for call in NUMBERED {
+            let (accepted, all) = (self.numbers[0][call].iter().sum(), self.cases[call]);
             text += &format!("{:>12}  {all} cases, {:.1} % accepted\n", CALLS[call], share(accepted, all));
         }
         let [empty, found] = self.parts;
@@ -146,7 +169,7 @@ impl Summary {
         for (kind, met) in KINDS.iter().zip(self.kinds) {
             text += &format!("{:>12}  met {met} times\n", format!("{kind:?}"));
         }
-        text
+        text + &self.shows.text()
     }
 }
 

@@ -21,9 +21,10 @@ pub enum Case {
     Kind { rule: Vec<u8> },
     Map { detail: Vec<u8>, overview: Vec<u8>, map: Vec<u8> },
     Row { overview: Vec<u8>, detail: Vec<u8>, choice: Table, n: usize, t: usize },
+    Show { chart: Vec<u8>, rule: Vec<u8>, marks: Lent, scratch: Lent, node: usize, state: usize, output: Lent },
 }
 
-pub const CALLS: [&str; 4] = ["check", "kind", "map", "row"];
+pub const CALLS: [&str; 5] = ["check", "kind", "map", "row", "show"];
 
 impl Lent {
     pub fn new(length: usize, fill: u64) -> Lent {
@@ -49,6 +50,7 @@ impl Case {
             Case::Kind { .. } => 1,
             Case::Map { .. } => 2,
             Case::Row { .. } => 3,
+            Case::Show { .. } => 4,
         }
     }
 }

@@ -28,6 +28,14 @@ pub fn text(case: &Case) -> String {
             let tables = format!("overview={} detail={}", hex(overview), hex(detail));
             format!("row {tables} choice={choice} n={n} t={t}")
         }
+        Case::Show { chart, rule, marks, scratch, node, state, output } => format!(
+            "show chart={} rule={} marks={} scratch={} node={node} state={state} output={}",
+            hex(chart),
+            hex(rule),
+            lent_text(marks),
+            lent_text(scratch),
+            lent_text(output)
+        ),
     }
 }
 
@@ -95,6 +103,15 @@ pub fn parse(line: &str) -> Result<Case, String> {
             n: fields.number("n")?,
             t: fields.number("t")?,
         }),
+        "show" => Ok(Case::Show {
+            chart: fields.bytes("chart")?,
+            rule: fields.bytes("rule")?,
+            marks: fields.lent("marks")?,
+            scratch: fields.lent("scratch")?,
+            node: fields.number("node")?,
+            state: fields.number("state")?,
+            output: fields.lent("output")?,
+        }),
         _ => Err(format!("unknown call {call:?} in the case")),
     }
 }
@@ -114,7 +131,7 @@ mod tests {
 
     #[test]
     fn other_lines_are_refused() {
-        for line in ["", "chek", "kind", "kind rule", "kind rule=0", "kind rule=0g", "row n=1"] {
+        for line in ["", "chek", "kind", "kind rule", "kind rule=0", "kind rule=0g", "row n=1", "show chart= rule="] {
             assert!(parse(line).is_err(), "{line}");
         }
     }

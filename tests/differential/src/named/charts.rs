@@ -1,25 +1,36 @@
 //! Rows 1 to 9 and 17 to 19 of the refusal table, each with the neighbour that passes;
 //! the order of rows.
 
-use crate::cases::case::Case;
 use crate::bytes::chart::{arrow, Arrow, Chart, NO_END};
-use crate::random::damage::restate;
-use crate::named::expected::*;
 use crate::bytes::rule::{self, node, plain, A, LABEL, NOT, TRUE};
+use crate::cases::case::Case;
+use crate::named::expected::*;
+use crate::random::damage::restate;
 
 pub type List = Vec<Named>;
 
-/// A chart in check, then as the detail and as the overview of a map check.
+/// A chart in check and in show, then as the detail and as the overview of a map check.
 fn chart_row(list: &mut List, name: &str, chart: Vec<u8>, number: u32, place: u32) {
     let n = chart.get(5..7).map_or(0, |two| u16::from_be_bytes([two[0], two[1]]) as usize);
     let as_check = check(chart.clone(), rule::bytes(&just_true()), n, 4 * n);
     add(list, &format!("{name}, check"), as_check, Expected::Outcome(number, place));
+    let as_show = show((chart.clone(), rule::bytes(&just_true())), n, 257 * n, [0, 0], 6);
+    add(list, &format!("{name}, show"), as_show, Expected::Outcome(after_check(number), place));
     let as_detail = map(chart.clone(), chart.clone(), identity(n));
     add(list, &format!("{name}, detail"), as_detail, Expected::Outcome(number, place));
     if number != 0 {
         let as_overview = map(one().bytes(), chart, identity(1));
         let expected = Expected::Outcome(number + 40, place);
         add(list, &format!("{name}, overview"), as_overview, expected);
+    }
+}
+
+/// What show answers of node 0, which is no until, where check answers this.
+pub fn after_check(number: u32) -> u32 {
+    if number == 0 {
+        60
+    } else {
+        number
     }
 }
 

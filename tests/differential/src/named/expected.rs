@@ -1,9 +1,10 @@
 //! Named cases with the answer that the paper gives: both programs are held to it.
 
-use crate::cases::case::{Case, Lent, Table};
 use crate::bytes::chart::{arrow, framed, Chart, NO_END};
-use crate::calls::compare::{Answer, Kind, Part};
 use crate::bytes::rule::{self, plain, Node, TRUE};
+use crate::calls::compare::{Answer, Kind, Part};
+use crate::cases::case::{Case, Lent, Table};
+use crate::cases::replay::hex;
 
 #[derive(Debug)]
 pub enum Expected {
@@ -16,6 +17,10 @@ pub enum Expected {
     /// Where the part begins and how long it is.
     Part(usize, usize),
     EmptyPart,
+    /// Accepted, with this run in hex.
+    Run(&'static str),
+    /// Accepted, with a run of so many steps.
+    Steps(usize),
 }
 
 pub struct Named {
@@ -47,6 +52,10 @@ impl Named {
             (Expected::Part(from, length), Answer::Row(Part::At { offset, bytes })) => {
                 offset == from && bytes.len() == *length
             }
+            (Expected::Run(text), Answer::Show { number: 0, place: 0, written, output, .. }) => {
+                output.get(..*written).is_some_and(|run| hex(run) == *text)
+            }
+            (Expected::Steps(steps), Answer::Show { number: 0, place: 0, written, .. }) => *written == 6 * (steps + 1),
             (Expected::Outcome(number, place), other) => other.outcome() == Some((*number, *place)),
             _ => false,
         }
@@ -69,6 +78,13 @@ pub fn check(chart: Vec<u8>, rule: Vec<u8>, marks: usize, scratch: usize) -> Cas
 pub fn exact(chart: &Chart, nodes: &[Node]) -> Case {
     let n = chart.states();
     check(chart.bytes(), rule::bytes(nodes), n * nodes.len(), 4 * n)
+}
+
+/// A show of chart and rule, given the lengths of marks and scratch, node and state, and the length of the output.
+pub fn show(bytes: (Vec<u8>, Vec<u8>), marks: usize, scratch: usize, at: [usize; 2], output: usize) -> Case {
+    let (marks, scratch, output) = (Lent::new(marks, FILL), Lent::new(scratch, FILL + 1), Lent::new(output, FILL + 2));
+    let ((chart, rule), [node, state]) = (bytes, at);
+    Case::Show { chart, rule, marks, scratch, node, state, output }
 }
 
 pub fn map(detail: Vec<u8>, overview: Vec<u8>, map: Vec<u8>) -> Case {

@@ -1,10 +1,10 @@
 //! The thirteen items and the listing of the paper, kinds of rules and rows of tables.
 
-use crate::cases::case::{Case, Table};
 use crate::bytes::chart::{arrow, Chart, NO_END};
-use crate::calls::compare::Kind;
-use crate::named::expected::{add, exact, one, row, short, undo, Expected, Named};
 use crate::bytes::rule::{self, node, plain, Node, A, AND, E, LABEL, NOT, OR, TRUE};
+use crate::calls::compare::Kind;
+use crate::cases::case::{Case, Table};
+use crate::named::expected::{add, exact, one, row, short, undo, Expected, Named};
 
 const AT_MOST: u8 = 1;
 const AT_LEAST: u8 = 2;

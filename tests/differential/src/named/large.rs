@@ -1,9 +1,9 @@
 //! The largest charts under large bounds. No marks are written for them: they are accepted, and both programs agree.
 
 use crate::bytes::chart::{arrow, without_zero_loops, Arrow, Chart, NO_END};
+use crate::bytes::rule::{node, plain, Node, A, E, LABEL, OR};
 use crate::named::expected::{add, exact, Expected, Named};
 use crate::random::rng::Rng;
-use crate::bytes::rule::{node, plain, Node, A, E, LABEL, OR};
 
 const STATES: usize = 256;
 const HALF: usize = STATES / 2;

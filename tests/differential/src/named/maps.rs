@@ -1,8 +1,8 @@
 //! Rows 20 to 23 of the refusal table, each with the neighbour that passes.
 
 use crate::bytes::chart::NO_END;
-use crate::named::expected::{add, identity, map, map_of, short, Expected};
 use crate::named::charts::{resized, single, with_first, List};
+use crate::named::expected::{add, identity, map, map_of, short, Expected};
 
 fn maps_frame(list: &mut List) {
     let chart = || short().bytes();

@@ -6,3 +6,4 @@ pub mod items;
 pub mod large;
 pub mod maps;
 pub mod rules;
+pub mod shows;

@@ -1,14 +1,16 @@
 //! Rows 10 to 16 of the refusal table, each with the neighbour that passes.
 
-use crate::cases::case::Case;
-use crate::named::expected::{add, check, just_true, short, Expected};
 use crate::bytes::rule::{self, node, plain, Node, A, AND, E, LABEL, NOT, OR, TRUE};
-use crate::named::charts::{resized, with_first, List};
+use crate::cases::case::Case;
+use crate::named::charts::{after_check, resized, with_first, List};
+use crate::named::expected::{add, check, just_true, short, show, Expected};
 
-/// A rule in check over Short and in kind of rule.
+/// A rule in check and in show over Short and in kind of rule.
 fn rule_row(list: &mut List, name: &str, rule: Vec<u8>, number: u32, place: u32) {
     let as_check = check(short().bytes(), rule.clone(), 64 * 3, 12);
     add(list, &format!("{name}, check"), as_check, Expected::Outcome(number, place));
+    let as_show = show((short().bytes(), rule.clone()), 64 * 3, 257 * 3, [0, 0], 6);
+    add(list, &format!("{name}, show"), as_show, Expected::Outcome(after_check(number), place));
     let as_kind = Case::Kind { rule };
     add(list, &format!("{name}, kind"), as_kind, Expected::Outcome(number, place));
 }

@@ -6,16 +6,17 @@ use std::path::PathBuf;
 use std::process::Command;
 use std::time::{Duration, Instant};
 
+use crate::calls::report::say;
+use crate::calls::run::SHOWN;
+use crate::cases::last::Which;
 use crate::programs::files::{Pair, PROGRAMS};
 use crate::programs::folder::Folder;
 use crate::programs::judge;
-use crate::cases::last::Which;
 use crate::programs::limits;
 use crate::programs::met::Met;
 use crate::programs::pairs;
 use crate::programs::process;
-use crate::calls::report::say;
-use crate::calls::run::SHOWN;
+use crate::programs::why::WHY;
 
 const LIMIT: Duration = Duration::from_secs(20);
 
@@ -24,20 +25,31 @@ struct Programs {
     folder: String,
     /// Whole, since the programs are started in another folder.
     paths: Vec<PathBuf>,
+    why: PathBuf,
+}
+
+/// What the programs did with a pair.
+struct Seen {
+    /// Everything that is wrong.
+    differences: Vec<String>,
+    /// What desk_why printed.
+    why: String,
 }
 
 impl Programs {
     fn find(folder: &str) -> Result<Programs, String> {
         let whole = fs::canonicalize(folder).map_err(|why| format!("--programs {folder}: {why}"))?;
-        let paths: Vec<PathBuf> = PROGRAMS.iter().map(|name| whole.join(name)).collect();
-        match PROGRAMS.iter().zip(&paths).find(|(_, path)| !path.is_file()) {
-            Some((name, _)) => Err(format!("there is no program {folder}/{name}: run rt check first")),
-            None => Ok(Programs { folder: folder.into(), paths }),
-        }
+        let find = |name: &&str| {
+            let path = whole.join(name);
+            let there = path.is_file();
+            there.then_some(path).ok_or(format!("there is no program {folder}/{name}: run rt check first"))
+        };
+        let paths = PROGRAMS.iter().map(find).collect::<Result<_, _>>()?;
+        Ok(Programs { folder: folder.into(), paths, why: find(&WHY)? })
     }
 
-    /// Everything that is wrong; the programs are run in a folder that is made for this.
-    fn differences(&self, pair: &Pair, texts: &[String; 2]) -> io::Result<Vec<String>> {
+    /// The programs are run in a folder that is made for this.
+    fn see(&self, pair: &Pair, texts: &[String; 2]) -> io::Result<Seen> {
         let folder = Folder::fresh()?;
         pair.files.write(folder.path())?;
         let mut differences = against_written(pair, texts);
@@ -48,7 +60,14 @@ impl Programs {
             };
             differences.extend(what.map(|what| format!("{name}: {what}")));
         }
-        Ok(differences)
+        let mut asked = Command::new(&self.why);
+        asked.args(pair.why.arguments()).current_dir(folder.path());
+        let why = match process::run(&mut asked, LIMIT) {
+            Ok(ended) => pair.why.text(&pair.files, &ended),
+            Err(what) => Err(what),
+        };
+        differences.extend(why.as_ref().err().map(|what| format!("{WHY}: {what}")));
+        Ok(Seen { differences, why: why.unwrap_or_default() })
     }
 }
 
@@ -79,10 +98,10 @@ impl Run {
 
     fn pair(&mut self, pair: &Pair, which: Which) -> io::Result<()> {
         let texts = pair.files.texts();
-        let differences = self.programs.differences(pair, &texts)?;
+        let Seen { differences, why } = self.programs.see(pair, &texts)?;
         self.pairs += 1;
         if pair.written.is_none() {
-            self.met.add(&pair.files, &texts);
+            self.met.add(&pair.files, &texts, &why);
         }
         for what in &differences {
             say(&format!("DIFFERENCE in {}: {what}", pair.name));
@@ -154,6 +173,8 @@ pub fn one(folder: &str, which: Which) -> Result<bool, String> {
     for (name, text) in PROGRAMS.iter().zip(pair.files.texts()) {
         say(&format!("{name} has to print:\n{}", text.trim_end()));
     }
+    let [node, state] = pair.why.arguments();
+    say(&format!("{WHY} {node} {state} may print:\n{}", pair.why.example(&pair.files).trim_end()));
     run.pair(&pair, which).map_err(|why| format!("the files of the pair: {why}"))?;
     say(&run.said());
     Ok(run.differ == 0)

@@ -8,6 +8,7 @@ use std::path::Path;
 use oracle::{calls_text, listing, ASK_READ, CHART_READ, RULE_READ};
 
 use crate::cases::replay::hex;
+use crate::programs::why::Why;
 
 /// What lies under a file's name.
 #[derive(Clone, Debug, PartialEq, Eq)]
@@ -26,10 +27,11 @@ pub struct Files {
 
 pub const PROGRAMS: [&str; 2] = ["desk", "desk_test_calls"];
 
-/// Files for both programs. For some it is written down what each of `PROGRAMS` has to print.
+/// Files for all programs, and what desk_why is asked. For some it is written down what each of `PROGRAMS` has to print.
 pub struct Pair {
     pub name: String,
     pub files: Files,
+    pub why: Why,
     pub written: Option<[String; 2]>,
 }
 

@@ -7,13 +7,15 @@ const SHOWN: usize = 280;
 const BEFORE: usize = 60;
 
 pub fn difference(ended: &Output, text: &str) -> Option<String> {
+    badly_ended(ended).or_else(|| first_difference(("program", &ended.stdout), ("oracle", text.as_bytes())))
+}
+
+pub fn badly_ended(ended: &Output) -> Option<String> {
     if !ended.status.success() {
         return Some(format!("ended with {}", ended.status));
     }
-    if !ended.stderr.is_empty() {
-        return Some(format!("wrote to standard error: {}", excerpt(Some(&ended.stderr), 0)));
-    }
-    first_difference(("program", &ended.stdout), ("oracle", text.as_bytes()))
+    let excerpt = || format!("wrote to standard error: {}", excerpt(Some(&ended.stderr), 0));
+    (!ended.stderr.is_empty()).then(excerpt)
 }
 
 /// Whose text it is, and the text.

@@ -1,18 +1,21 @@
 //! Named files with the texts that both programs have to print: they and the oracle are held to them. Here the paper's
 //! own listing, and files that can't be read.
 
-use crate::programs::asks;
 use crate::bytes::chart::{arrow, Arrow, Chart};
+use crate::bytes::rule::{self, node, plain, A, LABEL, TRUE};
+use crate::named::expected::short;
+use crate::programs::asks;
 use crate::programs::files::{Files, Pair, Stored};
 use crate::programs::limits_length;
 use crate::programs::limits_rows;
-use crate::named::expected::short;
-use crate::bytes::rule::{self, node, plain, A, LABEL, TRUE};
+use crate::programs::limits_why;
+use crate::programs::why::Why;
 
 pub type List = Vec<Pair>;
 
 pub fn add(list: &mut List, name: &str, files: Files, listing: &str, calls: String) {
-    list.push(Pair { name: name.into(), files, written: Some([listing.into(), calls]) });
+    let why = Why { node: 2, state: 0, written: None };
+    list.push(Pair { name: name.into(), files, why, written: Some([listing.into(), calls]) });
 }
 
 /// Without an ask, which is for the row of n = 0.
@@ -82,18 +85,21 @@ pub fn all() -> List {
     unreadable(&mut list);
     limits_length::all(&mut list);
     limits_rows::all(&mut list);
+    limits_why::all(&mut list);
     list
 }
 
 #[cfg(test)]
 mod tests {
     use super::all;
+    use crate::programs::files::Pair;
 
     #[test]
     fn no_name_and_no_files_twice() {
         let list = all();
         for (i, pair) in list.iter().enumerate() {
-            let same = list[..i].iter().find(|other| other.name == pair.name || other.files == pair.files);
+            let alike = |other: &Pair| other.files == pair.files && other.why == pair.why;
+            let same = list[..i].iter().find(|other| other.name == pair.name || alike(other));
             assert!(same.is_none(), "{}", pair.name);
         }
     }
@@ -102,6 +108,9 @@ mod tests {
     fn the_oracle_prints_what_is_written() {
         for pair in all() {
             assert_eq!(Some(pair.files.texts()), pair.written, "{}", pair.name);
+            if let Some(text) = &pair.why.written {
+                assert_eq!(pair.why.judged(&pair.files, text), Ok(()), "{}", pair.name);
+            }
         }
     }
 }

@@ -1,10 +1,10 @@
 //! The longest files that are accepted, and those of which only the first bytes are read: what they state decides.
 
 use crate::bytes::chart::{arrow, Arrow, Chart, NO_END};
-use crate::programs::limits::{add, calls, files, List, SHORT_CALLS};
-use crate::named::expected::{just_true, short};
 use crate::bytes::rule::{self, node, plain, Node, E, LABEL, NOT, TRUE};
+use crate::named::expected::{just_true, short};
 use crate::named::rules::nots;
+use crate::programs::limits::{add, calls, files, List, SHORT_CALLS};
 
 /// Cut or filled up with zeros to a length, and stating one.
 fn stating(mut bytes: Vec<u8>, length: usize, stated: u32) -> Vec<u8> {

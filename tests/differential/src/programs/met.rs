@@ -2,7 +2,7 @@
 
 use crate::programs::files::Files;
 
-const KINDS: [&str; 9] = [
+const KINDS: [&str; 11] = [
     "listings",
     "refusals of the chart",
     "refusals of the rule",
@@ -12,6 +12,8 @@ const KINDS: [&str; 9] = [
     "overview rows empty",
     "detail rows found",
     "detail rows empty",
+    "runs shown",
+    "runs refused by 60",
 ];
 
 #[derive(Default)]
@@ -41,9 +43,17 @@ fn of_row(files: &Files, calls: &str) -> usize {
     5 + 2 * usize::from(detail) + usize::from(empty)
 }
 
+/// None where check refuses, or no run fits.
+fn of_why(why: &str) -> Option<usize> {
+    if why == "refused 60 at 0\n" {
+        return Some(10);
+    }
+    (!why.starts_with("refused ")).then_some(9)
+}
+
 impl Met {
-    pub fn add(&mut self, files: &Files, [listing, calls]: &[String; 2]) {
-        for kind in [of_listing(listing), of_reader(calls), of_row(files, calls)] {
+    pub fn add(&mut self, files: &Files, [listing, calls]: &[String; 2], why: &str) {
+        for kind in [of_listing(listing), of_reader(calls), of_row(files, calls)].into_iter().chain(of_why(why)) {
             self.0[kind] += 1;
         }
     }
@@ -61,30 +71,30 @@ impl Met {
 #[cfg(test)]
 mod tests {
     use super::Met;
+    use crate::bytes::rule;
+    use crate::named::expected::{just_true, short};
     use crate::programs::asks;
     use crate::programs::files::{Files, Stored};
-    use crate::named::expected::{just_true, short};
-    use crate::bytes::rule;
 
-    fn met(chart: Vec<u8>, rule: Vec<u8>, ask: Vec<u8>) -> Vec<&'static str> {
+    fn met(chart: Vec<u8>, rule: Vec<u8>, ask: Vec<u8>, why: &str) -> Vec<&'static str> {
         let files = Files { chart: Stored::Bytes(chart), rule: Stored::Bytes(rule), ask: Stored::Bytes(ask) };
         let mut met = Met::default();
         let all = met.missing();
-        met.add(&files, &files.texts());
+        met.add(&files, &files.texts(), why);
         let missing = met.missing();
         all.into_iter().filter(|kind| !missing.contains(kind)).collect()
     }
 
     #[test]
-    fn each_pair_counts_for_three_kinds() {
+    fn each_pair_counts_for_its_kinds() {
         let (chart, rule) = (short().bytes(), rule::bytes(&just_true()));
-        let listed = met(chart.clone(), rule.clone(), asks::bytes(0, 1, 0));
-        assert_eq!(listed, ["listings", "charts read", "overview rows found"]);
-        let no_chart = met(vec![], rule.clone(), asks::bytes(1, 1, 0));
+        let listed = met(chart.clone(), rule.clone(), asks::bytes(0, 1, 0), "0 at 0: until met at 0\n");
+        assert_eq!(listed, ["listings", "charts read", "overview rows found", "runs shown"]);
+        let no_chart = met(vec![], rule.clone(), asks::bytes(1, 1, 0), "refused 1 at 0\n");
         assert_eq!(no_chart, ["refusals of the chart", "charts finished at once", "detail rows found"]);
-        let no_rule = met(chart.clone(), vec![], asks::bytes(255, 1, 0));
+        let no_rule = met(chart.clone(), vec![], asks::bytes(255, 1, 0), "refused 10 at 0\n");
         assert_eq!(no_rule, ["refusals of the rule", "charts read", "detail rows empty"]);
-        let nothing_asked = met(chart, rule, vec![]);
-        assert_eq!(nothing_asked, ["listings", "charts read", "overview rows empty"]);
+        let nothing_asked = met(chart, rule, vec![], "refused 60 at 0\n");
+        assert_eq!(nothing_asked, ["listings", "charts read", "overview rows empty", "runs refused by 60"]);
     }
 }

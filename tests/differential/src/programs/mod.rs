@@ -8,6 +8,8 @@ pub mod judge;
 pub mod limits;
 pub mod limits_length;
 pub mod limits_rows;
+pub mod limits_why;
 pub mod met;
 pub mod pairs;
 pub mod process;
+pub mod why;

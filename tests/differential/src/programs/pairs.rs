@@ -2,11 +2,14 @@
 
 use oracle::{CHART_READ, RULE_READ};
 
-use crate::programs::asks;
 use crate::cases::case::Case;
+use crate::programs::asks;
 use crate::programs::files::{Files, Pair, Stored};
+use crate::programs::why::Why;
+use crate::random::asked;
 use crate::random::generate;
 use crate::random::rng::Rng;
+use crate::random::shows;
 
 /// Of a length about what is read of a file; what it states then decides whether it is refused, and why.
 fn lengthened(rng: &mut Rng, mut bytes: Vec<u8>, read: usize) -> Vec<u8> {
@@ -30,19 +33,27 @@ fn stored(rng: &mut Rng, bytes: Vec<u8>, read: usize) -> Stored {
     }
 }
 
-fn files(rng: &mut Rng) -> Files {
-    let Case::Check { chart, rule, .. } = generate::check(rng) else {
-        panic!("a check was asked for");
-    };
-    let chart = stored(rng, chart, CHART_READ);
-    let rule = stored(rng, rule, RULE_READ);
-    let ask = asks::random(rng, [chart.read(CHART_READ).len(), rule.read(RULE_READ).len()]);
-    Files { chart, rule, ask }
+/// Those of a check, or those of a show with what is asked there.
+fn made(rng: &mut Rng) -> (Vec<u8>, Vec<u8>, [usize; 2]) {
+    let case = if rng.percent(50) { generate::check(rng) } else { shows::random(rng) };
+    match case {
+        Case::Check { chart, rule, .. } => {
+            let asked = asked::random(rng, &chart, &rule);
+            (chart, rule, asked)
+        }
+        Case::Show { chart, rule, node, state, .. } => (chart, rule, [node, state]),
+        _ => panic!("a check or a show was asked for"),
+    }
 }
 
 pub fn random(seed: u64, number: u64) -> Pair {
-    let files = files(&mut Rng::of_case(seed, number));
-    Pair { name: format!("pair {number} of seed {seed}"), files, written: None }
+    let rng = &mut Rng::of_case(seed, number);
+    let (chart, rule, [node, state]) = made(rng);
+    let chart = stored(rng, chart, CHART_READ);
+    let rule = stored(rng, rule, RULE_READ);
+    let ask = asks::random(rng, [chart.read(CHART_READ).len(), rule.read(RULE_READ).len()]);
+    let why = Why { node, state, written: None };
+    Pair { name: format!("pair {number} of seed {seed}"), files: Files { chart, rule, ask }, why, written: None }
 }
 
 #[cfg(test)]
@@ -59,6 +70,7 @@ mod tests {
         assert_eq!(files(3, 5), files(3, 5));
         assert_ne!(files(3, 5), files(3, 6));
         assert_ne!(files(3, 5), files(4, 5));
+        assert_eq!(random(3, 5).why, random(3, 5).why);
     }
 
     /// Chart, rule and ask: which of them are ever as wanted?

@@ -1,8 +1,8 @@
 //! Faults inside well-framed charts and rules, so that the later rows are met.
 
 use crate::bytes::chart::{arrow, Arrow, Chart};
-use crate::random::rng::Rng;
 use crate::bytes::rule::{plain, Node, A, E, LABEL, NOT, TRUE};
+use crate::random::rng::Rng;
 
 fn any_arrow<'a>(rng: &mut Rng, chart: &'a mut Chart) -> Option<&'a mut Arrow> {
     let count = chart.arrows.len();

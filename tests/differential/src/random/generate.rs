@@ -1,20 +1,21 @@
 //! Random cases by number: case i depends on the seed and i alone.
 
-use crate::cases::case::{Case, Lent};
 use crate::bytes::chart;
+use crate::bytes::rule;
+use crate::cases::case::{Case, Lent};
 use crate::random::damage;
 use crate::random::faults;
 use crate::random::maps;
 use crate::random::rng::Rng;
 use crate::random::rows;
-use crate::bytes::rule;
+use crate::random::shows;
 use crate::random::trees;
 
-/// How many cases in 100 are checks.
+/// How many cases in 107 are checks.
 const CHECKS: usize = 60;
 
 /// A lent buffer that needs `exact` places: mostly enough of them, one too short at times.
-fn lent(rng: &mut Rng, exact: usize) -> Lent {
+pub fn lent(rng: &mut Rng, exact: usize) -> Lent {
     let length = match rng.below(40) {
         0 => exact.saturating_sub(1),
         1 => rng.below(exact),
@@ -46,7 +47,7 @@ fn great_check(rng: &mut Rng) -> Case {
 }
 
 /// One to six faults, in the chart, in the rule or in both, so that the order of rows counts.
-fn damaged_check(rng: &mut Rng) -> Case {
+pub fn damaged_check(rng: &mut Rng) -> Case {
     let mut chart = chart::random(rng, false);
     let mut rule = trees::random(rng, &chart);
     let (n, k) = (chart.states(), rule.len());
@@ -101,10 +102,11 @@ pub fn check(rng: &mut Rng) -> Case {
 
 pub fn random(seed: u64, number: u64) -> Case {
     let mut rng = Rng::of_case(seed, number);
-    match rng.below(100) {
+    match rng.below(107) {
         share @ 0..CHECKS => check_of(&mut rng, share),
         60..=69 => kind(&mut rng),
         70..=91 => maps::random(&mut rng),
-        _ => rows::random(&mut rng),
+        92..=99 => rows::random(&mut rng),
+        _ => shows::random(&mut rng),
     }
 }

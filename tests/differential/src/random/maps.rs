@@ -1,7 +1,7 @@
 //! Map checks: an overview, a detail made by splitting its states, and the map between.
 
-use crate::cases::case::Case;
 use crate::bytes::chart::{self, arrow, framed, Arrow, Chart, NO_END};
+use crate::cases::case::Case;
 use crate::random::damage;
 use crate::random::faults;
 use crate::random::rng::Rng;

@@ -1,9 +1,14 @@
 //! Random cases.
 
+pub mod asked;
 pub mod damage;
+pub mod dense_runs;
 pub mod faults;
 pub mod generate;
+pub mod long_runs;
 pub mod maps;
 pub mod rng;
 pub mod rows;
+pub mod shows;
+pub mod telling;
 pub mod trees;

@@ -1,8 +1,8 @@
 //! Random rules: trees of all seven operations, both bounds, any order of the nodes.
 
 use crate::bytes::chart::{Chart, NO_END};
-use crate::random::rng::Rng;
 use crate::bytes::rule::{node, plain, Node, A, AND, E, LABEL, NOT, OR, TRUE};
+use crate::random::rng::Rng;
 
 /// Which untils a rule prefers, so that each of the four kinds of rule comes up.
 #[derive(Clone, Copy, PartialEq, Eq)]
@@ -188,10 +188,20 @@ pub fn random(rng: &mut Rng, chart: &Chart) -> Vec<Node> {
     nodes
 }
 
-/// One until with a bound up to the largest, over true or a label and a label or its not.
+/// One until with a bound up to the largest.
 pub fn great(rng: &mut Rng, chart: &Chart) -> Vec<Node> {
-    let soil = Soil { chart, cap: 65_535, great: true };
-    let mut nodes = vec![leaf(rng, &soil)];
+    one_until(rng, &Soil { chart, cap: 65_535, great: true })
+}
+
+/// One until with a bound that the chart's minutes come to.
+pub fn single(rng: &mut Rng, chart: &Chart) -> Vec<Node> {
+    let cap = cap(rng, chart, 3);
+    one_until(rng, &Soil { chart, cap, great: false })
+}
+
+/// Over true or a label and a label, each or its not.
+fn one_until(rng: &mut Rng, soil: &Soil) -> Vec<Node> {
+    let mut nodes = vec![leaf(rng, soil)];
     let first = operand(rng, &mut nodes);
     nodes.push(plain(LABEL, soil.label(rng), 0));
     let second = operand(rng, &mut nodes);

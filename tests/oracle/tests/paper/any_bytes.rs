@@ -1,7 +1,10 @@
 //! Every call takes any input.
 
-use crate::make::{map, rule, short, undo, Numbers, TRUE};
-use oracle::{arrow, calls_text, check, kind_of_rule, listing, map_check};
+use crate::make::{label, map, rule, run, short, undo, Numbers, TRUE};
+use crate::show_call::call;
+use oracle::{
+    arrow, calls_text, check, fewest_steps, judge_run, judge_why, kind_of_rule, listing, map_check, why_text,
+};
 
 /// Some bytes replaced, then cut or lengthened now and then.
 fn damaged(numbers: &mut Numbers, mut bytes: Vec<u8>) -> Vec<u8> {
@@ -29,6 +32,22 @@ fn damaged_bytes() {
         listing(&chart, &rule);
         calls_text(&chart, &rule, &map);
         arrow(&chart, numbers.below(5) as usize);
+    }
+}
+
+/// The oracle's own answers are right, and runs of any bytes are judged.
+#[test]
+fn damaged_bytes_shown() {
+    let mut numbers = Numbers(12);
+    let three = rule(&[TRUE, label(2), (6, 1, 0, 1, 4)]);
+    let given = run(&[(0, 10), (1, 4), (2, 0)]);
+    for _ in 0..5000 {
+        let (chart, rule) = (damaged(&mut numbers, undo()), damaged(&mut numbers, three.clone()));
+        let (node, state) = (numbers.below(4) as usize, numbers.below(4) as usize);
+        call(&chart, &rule, node, state, [5 + numbers.below(20) as usize, 1_000, numbers.below(40) as usize]);
+        let _ = judge_run(&chart, &rule, node, state, &damaged(&mut numbers, given.clone()));
+        fewest_steps(&chart, &rule, node, state);
+        assert_eq!(judge_why(&chart, &rule, node, state, &why_text(&chart, &rule, node, state)), Ok(()));
     }
 }
 

@@ -1,12 +1,7 @@
 //! The thirteen items and the listing.
 
-use crate::make::{label, not, one, rule, short, undo, NodeFields, TRUE};
+use crate::make::{label, not, one, rule, short, undo, NodeFields, A, AT_LEAST, AT_MOST, E, TRUE};
 use oracle::{check, listing, Outcome};
-
-const E: u8 = 5;
-const A: u8 = 6;
-const AT_MOST: u8 = 1;
-const AT_LEAST: u8 = 2;
 
 /// Marks of the last node, states in order.
 fn last_marks(chart: &[u8], nodes: &[NodeFields]) -> String {

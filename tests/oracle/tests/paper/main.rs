@@ -1,13 +1,21 @@
-//! The paper's own examples, and the rules it gives for every input.
+//! The papers' own examples, and the rules they give for every input.
 
 mod any_bytes;
 mod buffers;
 mod calls;
 mod durations;
+mod fewest;
 mod items;
+mod judged_runs;
+mod judged_shows;
 mod kinds;
 mod make;
 mod map_refusals;
 mod readers;
 mod refusals;
 mod rows;
+mod show_buffers;
+mod show_call;
+mod show_refusals;
+mod shown;
+mod whys;

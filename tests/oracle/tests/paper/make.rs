@@ -17,6 +17,26 @@ pub fn not(a: u16) -> NodeFields {
     (2, 0, a, 0, 0)
 }
 
+pub const E: u8 = 5;
+pub const A: u8 = 6;
+pub const AT_MOST: u8 = 1;
+pub const AT_LEAST: u8 = 2;
+
+/// Label 0 until label 1, node 2.
+pub fn l0_l1(operation: u8, kind: u8, c: u16) -> Vec<u8> {
+    rule(&[label(0), label(1), (operation, kind, 0, 1, c)])
+}
+
+/// True until L2, node 2.
+pub fn true_l2(operation: u8, kind: u8, c: u16) -> Vec<u8> {
+    rule(&[TRUE, label(2), (operation, kind, 0, 1, c)])
+}
+
+/// True until true, node 2.
+pub fn true_true(operation: u8, kind: u8, c: u16) -> Vec<u8> {
+    rule(&[TRUE, TRUE, (operation, kind, 0, 1, c)])
+}
+
 /// Version and length in front of what follows.
 fn whole(rest: Vec<u8>) -> Vec<u8> {
     let length = rest.len() as u32 + 5;
@@ -39,6 +59,12 @@ pub fn rule(nodes: &[NodeFields]) -> Vec<u8> {
         rest.extend(words(&[a, b, c]));
     }
     whole(rest)
+}
+
+/// A run's bytes from its states and durations.
+pub fn run(positions: &[(u16, u32)]) -> Vec<u8> {
+    let bytes = |&(state, duration): &(u16, u32)| [words(&[state]), duration.to_be_bytes().to_vec()].concat();
+    positions.iter().flat_map(bytes).collect()
 }
 
 pub fn map(entries: &[u16]) -> Vec<u8> {

@@ -15,7 +15,7 @@ zeros-are zs h =
 module _ (n size : ℕ) (scratch used : List ℕ)
     (are : length used ≡ n) (more : n ≤ size) (room : size ≤ length scratch) where
   -- what lies past the numbers that are cleared was not used
-  unused : drop size (used ++ drop n scratch) ≡ drop size scratch
+  pub unused : drop size (used ++ drop n scratch) ≡ drop size scratch
   unused =
       let past : size ≡ length used + (size - n) = omega arith in
       let all : n + (size - n) ≡ size = omega arith in

@@ -5,8 +5,7 @@ use Prim.Native.Nat.{ℕ, suc, _+_, _≤_}
 use native.Mathlib.Omega.{arith}
 use lib.ListN.{length, set, take, drop, length-append, length-take}
 use lib.Seq.{sets, length-sets, sets-eq}
-use Rattle.listing.specs.Text.{Shown}
-use Rattle.listing.specs.Piece.{Room, Appended}
+use Rattle.append.specs.Piece.{Room, Appended, AtFront}
 
 -- two runs of stores: by induction on the first
 sets-append : (old : List ℕ) (at : ℕ) (s t : List ℕ) → sets old at (s ++ t) ≡ sets (sets old at s) (at + length s) t
@@ -61,22 +60,22 @@ room-parts a b c d h =
     let two = room-first (a ++ b) c three in
     (room-first a b two, two, three)
 
--- a text that stands from 0 on is shown
-pub shown :
-    {r : ℕ} {text old new : List ℕ} → Room 0 text old → Appended 0 text r old new → Shown text r old new
-shown {text = text} {old} h p =
+-- a piece that stands from 0 on
+pub at-front :
+    {r : ℕ} {text old new : List ℕ} → Room 0 text old → Appended 0 text r old new → AtFront text r old new
+at-front {text = text} {old} h p =
     let e : 0 + length text ≡ length text = omega arith in
     record {
       end = omega (arith, p .end);
       bytes = p .bytes ∙ sets-eq text old 0 (h .fits) ∙ ap (λ (k : ℕ). text ++ drop k old) e;
     }
 
-pub shown-text : {r : ℕ} {s t old new : List ℕ} → s ≡ t → Shown s r old new → Shown t r old new
-shown-text {r} {old = old} {new} e h = subst (λ (text : List ℕ). Shown text r old new) e h
+pub at-front-text : {r : ℕ} {s t old new : List ℕ} → s ≡ t → AtFront s r old new → AtFront t r old new
+at-front-text {r} {old = old} {new} e h = subst (λ (text : List ℕ). AtFront text r old new) e h
 
--- what is shown lies in the buffer
-pub shown-counts :
-    {r : ℕ} {text old new : List ℕ} → Shown text r old new → (r ≤ length new) × (r ≡ length (take r new))
-shown-counts {r} {text} {old} {new} h =
+-- it lies in the buffer
+pub at-front-counts :
+    {r : ℕ} {text old new : List ℕ} → AtFront text r old new → (r ≤ length new) × (r ≡ length (take r new))
+at-front-counts {r} {text} {old} {new} h =
     let size = ap length (h .bytes) ∙ length-append text (drop (length text) old) in
     (omega (arith, h .end, size), omega (arith, h .end, size, length-take r new))

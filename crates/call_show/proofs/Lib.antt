@@ -1,0 +1,5 @@
+pub mod Quest
+pub mod Fitting
+pub mod Accepted
+pub mod Answers
+pub mod Passed

@@ -1,0 +1,8 @@
+-- What digits stand for.
+use mathlib.Core.List.{List, [], _∷_}
+use Prim.Native.Nat.{ℕ, _+_, _-_, _*_}
+
+-- the number that digits stand for, where those before them stand for `high`
+abbrev pub readAs : ℕ → List ℕ → ℕ
+readAs high [] = high
+readAs high (d ∷ s) = readAs (high * 10 + (d - 48)) s

@@ -1,0 +1,5 @@
+pub mod Sizes
+pub mod EndText
+pub mod Lines
+pub mod Before
+pub mod Told

@@ -1,0 +1,4 @@
+pub mod Tight
+pub mod Walk
+pub mod RunBytes
+pub mod Rest

@@ -1,0 +1,2 @@
+pub mod RunBytes
+pub mod Walk

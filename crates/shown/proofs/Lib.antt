@@ -1,0 +1,15 @@
+pub mod Best
+pub mod Table
+pub mod Same
+pub mod Along
+pub mod Begins
+pub mod Reasons
+pub mod Lawful
+pub mod Quests
+pub mod Shortest
+pub mod Found
+pub mod Paths
+pub mod Walks
+pub mod Operands
+pub mod Meaning
+pub mod Examples

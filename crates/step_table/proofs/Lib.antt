@@ -1,0 +1,4 @@
+pub mod Bounds
+pub mod Sweep
+pub mod Next
+pub mod Tabled

@@ -1,0 +1,72 @@
+//! Runs that desk_why has to print: the paper's, those about the most steps, and the longest durations.
+
+use crate::bytes::chart::{arrow, Chart, NO_END};
+use crate::bytes::rule::{self, node, plain, Node, A, E, LABEL, TRUE};
+use crate::named::expected::{one, short};
+use crate::programs::files::{Files, Pair};
+use crate::programs::limits::{calls, files, List, SHORT_CALLS};
+use crate::programs::why::Why;
+
+/// A listing, what desk_test_calls prints and, where one alone is right, a run, for node 2 at the state.
+fn add(list: &mut List, name: &str, files: Files, texts: [String; 2], state: usize, run: Option<&str>) {
+    let why = Why { node: 2, state, written: run.map(String::from) };
+    list.push(Pair { name: format!("why: {name}"), files, why, written: Some(texts) });
+}
+
+/// true until L(number)
+fn eventually(operation: u8, kind: u8, number: usize, c: usize) -> Vec<Node> {
+    vec![plain(TRUE, 0, 0), plain(LABEL, number, 0), node(operation, kind, 0, 1, c)]
+}
+
+fn of_short(list: &mut List) {
+    let mut test = |name: &str, (operation, c): (u8, usize), marks: &str, state, run: &str| {
+        let both = files(short().bytes(), rule::bytes(&eventually(operation, 1, 2, c)));
+        let listing = format!("states 3 nodes 3\n0 111\n1 001\n2 {marks}\n");
+        add(list, name, both, [listing, SHORT_CALLS.into()], state, Some(run));
+    };
+    let met = "0 at 0: 5 minutes to 1\n1 at 5: 0 minutes to 2\n2 at 5: until met at 5\n";
+    test("E(true until L2, at most 5)", (E, 5), "111", 0, met);
+    test("E, no step", (E, 5), "111", 2, "2 at 0: until met at 0\n");
+    test("E, a state out of range", (E, 5), "111", 3, "refused 60 at 0\n");
+    test("E, unmarked", (E, 4), "011", 0, "refused 60 at 0\n");
+    test("A, marked", (A, 14), "111", 0, "refused 60 at 0\n");
+    let late = "0 at 0: 10 minutes to 1\n1 at 10: 4 minutes to 2\n2 at 14: above 13\n";
+    test("A, unmarked, at most 13", (A, 13), "011", 0, late);
+}
+
+/// From a state to itself alone: the fewest steps are the bound's.
+fn of_one(list: &mut List) {
+    let waited = |steps: usize| (0..steps).map(|i| format!("0 at {i}: 1 minutes to 0\n")).collect::<String>();
+    let mut test = |name: &str, nodes: &[Node], marks: [u8; 3], run: &str| {
+        let both = files(one().bytes(), rule::bytes(nodes));
+        let [first, second, until] = marks;
+        let listing = format!("states 1 nodes 3\n0 {first}\n1 {second}\n2 {until}\n");
+        add(list, name, both, [listing, calls(&[], &one().arrows)], 0, Some(run));
+    };
+    let at_least = |c| [plain(TRUE, 0, 0), plain(TRUE, 0, 0), node(E, 2, 0, 1, c)];
+    test("256 steps", &at_least(256), [1, 1, 1], &(waited(256) + "0 at 256: until met at 256\n"));
+    test("above 256 steps", &at_least(257), [1, 1, 1], "refused 62 at 0\n");
+    test("A, 256 steps", &eventually(A, 1, 0, 255), [1, 0, 0], &(waited(256) + "0 at 256: above 255\n"));
+    test("A, above 256 steps", &eventually(A, 1, 0, 256), [1, 0, 0], "refused 62 at 0\n");
+    let nowhere = [plain(LABEL, 0, 0), plain(LABEL, 1, 0), node(A, 1, 0, 1, 9)];
+    test("A, neither operand", &nowhere, [0, 0, 0], "0 at 0: neither operand\n");
+}
+
+/// Fewest steps and not fewest minutes; then a duration that 16 bits don't hold, how long is free.
+fn of_others(list: &mut List) {
+    let arrows = vec![arrow(0, 1, 5, 5), arrow(0, 2, 0, 0), arrow(2, 1, 0, 0), arrow(1, 1, 1, 1)];
+    let detour = Chart { labels: vec![0, 2, 0], arrows };
+    let both = files(detour.bytes(), rule::bytes(&eventually(E, 1, 1, 5)));
+    let texts = ["states 3 nodes 3\n0 111\n1 010\n2 111\n".into(), calls(&[], &detour.arrows)];
+    add(list, "fewest steps", both, texts, 0, Some("0 at 0: 5 minutes to 1\n1 at 5: until met at 5\n"));
+    let endless = Chart { labels: vec![0], arrows: vec![arrow(0, 0, 1, NO_END)] };
+    let both = files(endless.bytes(), rule::bytes(&eventually(A, 1, 0, 65_535)));
+    let texts = ["states 1 nodes 3\n0 1\n1 0\n2 0\n".into(), calls(&[], &endless.arrows)];
+    add(list, "a duration above 65,535", both, texts, 0, None);
+}
+
+pub fn all(list: &mut List) {
+    of_short(list);
+    of_one(list);
+    of_others(list);
+}
