@@ -1,6 +1,6 @@
 -- Check: its part of the first demand, and the second, from its promise alone.
 use mathlib.Core.Path.{_≡_, refl, sym, ap, subst, _∙_}
-use mathlib.Core.Logic.{_↔_, _⊎_, inl, inr, Iff·symm, Iff·trans, by-cases}
+use mathlib.Core.Logic.{_↔_, _⊎_, inl, inr, Iff·trans, by-cases}
 use mathlib.Core.List.{List, [], _∷_, _++_}
 use Prim.Native.Nat.{ℕ, _*_, _<_}
 use native.Mathlib.Decide.{ℕ-discrete}
@@ -10,14 +10,10 @@ use Rattle.outcome.specs.declared.Outcome.{Outcome}
 use Rattle.outcome.specs.Refusal.{success}
 use Rattle.outcome.specs.Met.{Unmet}
 use Rattle.outcome.proofs.First.{success-iff}
-use Rattle.outcome.proofs.Unmet.{unmet-append-iff}
 use Rattle.chart.specs.Bytes.{stateCount}
-use Rattle.chart.specs.Refusals.{chartTable}
 use Rattle.rule.specs.Bytes.{nodeCount}
 use Rattle.rule.specs.Refusals.{ruleTable, ruleRefusal}
-use Rattle.loops.specs.Accepted.{AcceptedChart}
-use Rattle.loops.specs.Refusal.{loopRow, acceptedTable}
-use Rattle.loops.proofs.Accepted.{unmet-iff}
+use Rattle.loops.specs.Refusal.{loopRow}
 use Rattle.room.specs.Room.{scratchSize}
 use Rattle.call_check.specs.Check.{checkTable, checkRefusal, marksOf, Checked}
 use Rattle.call_check.specs.Judged.{inputTable}
@@ -64,6 +60,12 @@ module _ (chart rule marks scratch : List ℕ) where
           let room = room-iff chart rule marks scratch .1 (a .table, a .room) in
           (input-iff chart rule marks scratch .1 ((charts .0, rule-iff rule .0 (a .rule-accepted)), room), charts .1)
 
+-- zeros in front of what is kept
+pub zero-front : (size : ℕ) (old : List ℕ) (i : ℕ) → i < size → getD (replicate size 0 ++ drop size old) i 0 ≡ 0
+zero-front size old i l =
+    List·getD-append (replicate size 0) (drop size old) 0 i (omega (arith, length-replicate {A = ℕ} size 0)) ∙
+    getD-replicate size i 0 0 l
+
 -- The answer is the table's first row that is met, and what is left is as the promise says, case by case.
 pub check-unbroken :
     (chart rule marks scratch : List ℕ) (r : Outcome) (newMarks newScratch : List ℕ) →
@@ -79,7 +81,7 @@ check-unbroken chart rule marks scratch r newMarks newScratch c =
           past-front (marksOf chart rule) marks kn (marks-length chart rule) j l)
           (λ h. ap (λ m. getD m j 0) (refused-marks c h));
       marks-kept = refused-marks c;
-      cleared = λ w i l. ap (λ m. getD m i 0) (cleared-scratch c w) ∙ zero-at i l;
+      cleared = λ w i l. ap (λ m. getD m i 0) (cleared-scratch c w) ∙ zero-front size scratch i l;
       beyond = λ i l. scratch-by (λ s. getD s i 0 ≡ getD scratch i 0) refl
           (λ w. past-front zeros scratch size (length-replicate {A = ℕ} size 0) i l);
       scratch-kept = refused-scratch c;
@@ -93,11 +95,6 @@ check-unbroken chart rule marks scratch r newMarks newScratch c =
 
     zeros : List ℕ
     zeros = replicate size 0
-
-    zero-at : (i : ℕ) → i < size → getD (zeros ++ drop size scratch) i 0 ≡ 0
-    zero-at i l =
-        List·getD-append zeros (drop size scratch) 0 i (omega (arith, length-replicate {A = ℕ} size 0)) ∙
-        getD-replicate size i 0 0 l
 
     -- scratch is as lent, or cleared
     scratch-by :

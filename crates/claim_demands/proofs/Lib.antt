@@ -1,5 +1,6 @@
 pub mod Answers
 pub mod Check
+pub mod TrueReasons
 pub mod Show
 pub mod MapCheck
 pub mod DetailRule

@@ -7,9 +7,9 @@ use mathlib.Core.Option.{Option, none, some}
 use Prim.Native.Nat.{ℕ, suc, _*_, _<_}
 use native.Mathlib.Decide.{ℕ-discrete}
 use native.Mathlib.Omega.{arith}
-use lib.ListN.{length, getD, take, drop, replicate, length-replicate, getD-replicate, List·getD-append}
+use lib.ListN.{length, getD, take, drop, replicate, length-replicate}
 use lib.Seq.{take-append-seam}
-use lib.Dec.{leb, ltb}
+use lib.Dec.{leb}
 use borrow.Author.Tests.{leb-false, lt-leb, ltb-false, le-ltb, not-false, ne-eqb}
 use Rattle.base.proofs.Truth.{or-false}
 use Rattle.outcome.specs.declared.Outcome.{Outcome}
@@ -41,7 +41,7 @@ use Rattle.claim_demands.specs.Acceptable.{Acceptable}
 use Rattle.claim_demands.specs.FirstDemand.{Unbroken}
 use Rattle.claim_demands.specs.ShowTold.{Fitting, ShowAcceptable, ShowTold}
 use Rattle.claim_demands.proofs.Answers.{answers}
-use Rattle.claim_demands.proofs.Check.{check-accepts, check-unbroken}
+use Rattle.claim_demands.proofs.Check.{check-accepts, zero-front, check-unbroken}
 
 module _ (chart rule marks scratch : List ℕ) (node state : ℕ) (output : List ℕ) where
   abbrev quest : Quest
@@ -162,7 +162,7 @@ show-told chart rule marks scratch node state output r newMarks newScratch newOu
       marks-stand = s .meaning;
       marks-kept = unbroken .marks-kept;
       later-kept = unbroken .later-kept;
-      cleared = λ w i l. ap (λ m. getD m i 0) (s .cleared ∙ zeroed w) ∙ zero-at i l;
+      cleared = λ w i l. ap (λ m. getD m i 0) (s .cleared ∙ zeroed w) ∙ zero-front size scratch i l;
       beyond = λ w i l.
           ap (λ m. getD m i 0) (s .cleared ∙ zeroed w) ∙
           past-front zeros scratch size (length-replicate {A = ℕ} size 0) i l;
@@ -184,11 +184,6 @@ show-told chart rule marks scratch node state output r newMarks newScratch newOu
 
     zeros : List ℕ
     zeros = replicate size 0
-
-    zero-at : (i : ℕ) → i < size → getD (zeros ++ drop size scratch) i 0 ≡ 0
-    zero-at i l =
-        List·getD-append zeros (drop size scratch) 0 i (omega (arith, length-replicate {A = ℕ} size 0)) ∙
-        getD-replicate size i 0 0 l
 
     checked : ℕ
     checked = checkRefusal chart rule marks scratch .number

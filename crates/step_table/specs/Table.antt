@@ -6,6 +6,7 @@ use mathlib.Core.Option.{Option, none, some}
 use Prim.Native.Nat.{ℕ, _+_, _*_, _≤_, _<_, max}
 use lib.ListN.{length, set}
 use lib.Dec.{eqb, leb}
+use Rattle.base.specs.Entries.{Entries}
 use Rattle.tctl.specs.Chart.{Chart, Arrow}
 use Rattle.model.specs.Engine.{num}
 use Rattle.model.specs.Marks.{flag}
@@ -58,6 +59,12 @@ pub record Relaxed (chart : List ℕ) (n i at : ℕ) (weights old new : List ℕ
 abbrev pub rowRelaxed : Measure → List ℕ → ℕ → ℕ → List ℕ → ℕ → ℕ
 rowRelaxed measure chart at n old s =
     max (num old (at + n + s)) (best (sumsBy measure (λ e. num old (at + e)) s) (chartOf chart .arrows))
+
+-- all arrows were tried, with weights of whatever measure
+abbrev pub RelaxedAll : List ℕ → ℕ → ℕ → List ℕ → List ℕ → List ℕ → Type 0
+RelaxedAll chart n at weights old new =
+    (measure : Measure) → Weights measure chart weights →
+    Entries (at + n) n (rowRelaxed measure chart at n old) old new
 
 -- the numbers that the sums stand for, at states that it goes on from
 abbrev pub rowSettled : Target → List ℕ → List ℕ → ℕ → List ℕ → ℕ → ℕ

@@ -5,10 +5,9 @@ ghost use Rattle.base.specs.Entries.{Entries};
 ghost use Rattle.model.specs.Engine.{num};
 ghost use Rattle.chart.specs.Bytes.{arrowCount};
 ghost use Rattle.chart.specs.Shape.{Passed};
-ghost use Rattle.step_numbers.specs.declared.Measure.{Measure};
 ghost use Rattle.step_numbers.specs.Target.{Fair};
-ghost use Rattle.step_table.specs.Table.{rowBase, rowRelaxed, rowSettled, rowNext};
-ghost use Rattle.step_table.specs.Table.{Operands, Weights, Light, Relaxed, RowLow, Found, TableReady};
+ghost use Rattle.step_table.specs.Table.{rowBase, rowSettled, rowNext};
+ghost use Rattle.step_table.specs.Table.{Operands, Weights, Light, Relaxed, RelaxedAll, RowLow, Found, TableReady};
 use step_numbers::Measure;
 use step_numbers::Target;
 
@@ -74,9 +73,7 @@ fn relax(chart: &[u8], n: usize, i: usize, weights: &[u32], at: usize, table: &m
 // Every arrow raises the number of its start in the row after.
 fn relax_all(chart: &[u8], n: usize, m: usize, weights: &[u32], at: usize, table: &mut [u32])
     requires { ⌜ Passed (now chart) n m × Light (now chart) (now weights) × RowLow n at (now table) ⌝ }
-    ensures { λ _. ⌜ ((measure : Measure) → Weights measure (now (chart .entry)) (now (weights .entry)) →
-        Entries (at + n) n (rowRelaxed measure (now (chart .entry)) at n (now (table .entry)))
-        (now (table .entry)) (now (table .exit))) ⌝ }
+    ensures { λ _. ⌜ RelaxedAll (now (chart .entry)) n at (now (weights .entry)) (now (table .entry)) (now (table .exit)) ⌝ }
 {
     let mut i = 0;
     while i < m {
