@@ -36,6 +36,10 @@ extern "C" {
 #define DOILYSTRAND_MAX_RUN 1542
 #define DOILYSTRAND_MAX_RUN_SCRATCH 65792
 
+/* The greatest bound that is counted to, and numbers of scratch that are enough for every count. */
+#define DOILYSTRAND_MAX_COUNT_BOUND 255
+#define DOILYSTRAND_MAX_COUNT_SCRATCH 65536
+
 /* The most of an arrow whose slot has no end. */
 #define DOILYSTRAND_NO_END 65535
 
@@ -86,6 +90,16 @@ typedef struct doilystrand_arrow_words {
  * acceptance and after refusal 19 the first 4n numbers are 0; everything else is left as lent.
  */
 doilystrand_outcome doilystrand_check(const uint8_t *chart, size_t chart_size,
+                                      const uint8_t *rule, size_t rule_size,
+                                      uint8_t *marks, size_t marks_size,
+                                      uint32_t *scratch, size_t scratch_size);
+
+/*
+ * Marks as check does, by another way: it counts the minutes left one by one, 0 to the bound. It wants 256n numbers of
+ * scratch, for a rule without bounds too. A bound above 255 is refused with 63 and its node, before 17 to 19 are looked
+ * at. After acceptance and after refusal 19 the first 256n numbers are 0; everything else is left as lent.
+ */
+doilystrand_outcome doilystrand_count(const uint8_t *chart, size_t chart_size,
                                       const uint8_t *rule, size_t rule_size,
                                       uint8_t *marks, size_t marks_size,
                                       uint32_t *scratch, size_t scratch_size);

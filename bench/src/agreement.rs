@@ -1,5 +1,6 @@
-//! Library and peer compared on every input of check and of show.
+//! Library and peer compared on every input of check, of show and of count.
 
+use crate::count_agreement::count_agreement;
 use crate::input::Input;
 use crate::report::{GROWING, GROWTH};
 use crate::show::{Lent, Show, POSITIONS};
@@ -17,7 +18,8 @@ pub fn agreement() -> Result<(), String> {
         count += 1;
     }
     println!("Library and peer give equal outcomes, marks and scratch on all {count} inputs.");
-    show_agreement()
+    show_agreement()?;
+    count_agreement()
 }
 
 fn show_agreement() -> Result<(), String> {

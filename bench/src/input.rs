@@ -1,7 +1,7 @@
 //! One input of check, run on the library or on the peer.
 
 use crate::timing::{in_turn, Pair, Plan};
-use bench::{drawn, families, peer, rules, shown, small};
+use bench::{counted, drawn, families, peer, rules, shown, small};
 use std::hint::black_box;
 
 pub struct Input {
@@ -9,16 +9,33 @@ pub struct Input {
     pub rule: Vec<u8>,
 }
 
-/// The lent tables, as large as the largest input asks for.
+/// The lent tables.
 pub struct Buffers {
-    marks: Vec<u8>,
-    scratch: Vec<u32>,
+    pub marks: Vec<u8>,
+    pub scratch: Vec<u32>,
 }
 
 impl Buffers {
-    /// Filled with what neither program writes, so that kept content shows.
+    /// As large as the largest input of check asks for.
     pub fn new() -> Buffers {
-        Buffers { marks: vec![0xAA; 64 * 256 + 1], scratch: vec![0xAAAA_AAAA; 4 * 256 + 1] }
+        Buffers::with_scratch(4 * 256 + 1)
+    }
+
+    /// Filled with what neither program writes, so that kept content shows.
+    pub fn with_scratch(numbers: usize) -> Buffers {
+        Buffers { marks: vec![0xAA; 64 * 256 + 1], scratch: vec![0xAAAA_AAAA; numbers] }
+    }
+
+    /// Whether library and peer have left the same in theirs.
+    pub fn agree(&self, peer: &Buffers) -> Result<(), String> {
+        if self.marks != peer.marks {
+            let byte = self.marks.iter().zip(&peer.marks).position(|(a, b)| a != b);
+            return Err(format!("marks of library and peer differ at byte {}", byte.unwrap_or(0)));
+        }
+        if self.scratch != peer.scratch {
+            return Err("scratch of library and peer differs".to_string());
+        }
+        Ok(())
     }
 }
 
@@ -28,7 +45,8 @@ impl Input {
         Input::sized(chart, rule, 256, 2048)
     }
 
-    /// Small and drawn charts, and those of show, have their own size. The rule `seed` is that of the chart `seed-N`.
+    /// Small and drawn charts, and those of show and count, have their own size. The rule `seed` is that of the chart
+    /// `seed-N`.
     pub fn sized(chart: &str, rule: &str, n: usize, m: usize) -> Result<Input, String> {
         if let (Some(seed), "seed") = (chart.strip_prefix("seed-"), rule) {
             return Ok(Input::drawn(seed.parse().map_err(|_| format!("{seed} is not a seed"))?));
@@ -36,8 +54,10 @@ impl Input {
         if let Some(row) = shown::input(chart, rule) {
             return Ok(Input { chart: row.chart, rule: row.rule });
         }
-        let bytes = small::chart(chart).or_else(|| families::chart(chart, n, m)).ok_or(format!("no chart {chart}"))?;
-        let rule = small::rule(rule).or_else(|| rules::rule(rule)).ok_or(format!("no rule {rule}"))?;
+        let own = small::chart(chart).or_else(|| counted::chart(chart));
+        let bytes = own.or_else(|| families::chart(chart, n, m)).ok_or(format!("no chart {chart}"))?;
+        let own = small::rule(rule).or_else(|| counted::rule(rule));
+        let rule = own.or_else(|| rules::rule(rule)).ok_or(format!("no rule {rule}"))?;
         Ok(Input { chart: bytes, rule })
     }
 
@@ -83,13 +103,6 @@ impl Input {
         if outcomes != ((0, 0), (0, 0)) {
             return Err(format!("outcomes of library and peer: {outcomes:?}"));
         }
-        if ours.marks != theirs.marks {
-            let byte = ours.marks.iter().zip(&theirs.marks).position(|(a, b)| a != b);
-            return Err(format!("marks of library and peer differ at byte {}", byte.unwrap_or(0)));
-        }
-        if ours.scratch != theirs.scratch {
-            return Err("scratch of library and peer differs".to_string());
-        }
-        Ok(())
+        ours.agree(&theirs)
     }
 }

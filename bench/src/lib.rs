@@ -1,11 +1,14 @@
 //! The peer that the library is timed against, and the inputs of the benchmark.
 
 pub mod bytes;
+pub mod counted;
 pub mod drawn;
 pub mod families;
+pub mod instant;
 pub mod ladder;
 pub mod maps;
 pub mod nodes;
+pub mod parts;
 pub mod peer;
 pub mod random;
 pub mod ring;

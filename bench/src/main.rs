@@ -1,13 +1,19 @@
 //! Times the library beside the peer.
 //!
-//! `bench` prints the tables, `bench --quick` the ratios alone; `bench --agree` only compares the two on all inputs.
-//! `bench --one CHART RULE PROGRAM COUNT` only runs one input that often, for counting instructions; `seed-N` with rule
-//! `seed` is a chart of the table of random ones. The program is `library` or `peer`, which check, or `library-show` or
-//! `peer-show`. `bench --files CHART RULE FOLDER` writes one input for the desk program. `bench --names` prints the
-//! families, `bench --small` chart and rule of each small input, `bench --shown` those of each run that is shown.
+//! `bench` prints the tables, `bench --count` those of count alone, `bench --quick` the ratios alone; `bench --agree`
+//! only compares the two on all inputs. `bench --one CHART RULE PROGRAM COUNT` only runs one input that often, for
+//! counting instructions; `seed-N` with rule `seed` is a chart of the table of random ones. The program is `library` or
+//! `peer`, which check, or one of these with `-show` or `-count`, or `plain-count`, the plainer of count's two peers.
+//! `bench --files CHART RULE FOLDER` writes one input for the desk program. `bench --names` prints the families,
+//! `bench --small` chart and rule of each small input, `bench --shown` those of each run that is shown,
+//! `bench --counted` those of count whose instructions are counted.
 
 mod agreement;
+mod count;
+mod count_agreement;
+mod count_tables;
 mod input;
+mod library_count;
 mod library_show;
 mod ratios;
 mod report;
@@ -15,14 +21,15 @@ mod show;
 mod timing;
 mod worst;
 
+use count::Count;
 use input::{Buffers, Input};
 use show::{Answer, Lent, Show};
 use std::process::ExitCode;
 use std::time::Duration;
 use timing::Plan;
 
-const USE: &str = "use: bench [--quick | --agree | --names | --small | --shown]
-     bench --one CHART RULE library|peer|library-show|peer-show COUNT
+const USE: &str = "use: bench [--quick | --count | --agree | --names | --small | --shown | --counted]
+     bench --one CHART RULE library|peer|library-show|peer-show|library-count|plain-count|peer-count COUNT
      bench --files CHART RULE FOLDER";
 
 /// The plan of the tables.
@@ -44,6 +51,7 @@ fn run(words: &[&str]) -> Result<(), String> {
     match words {
         [] => report::all(&WHOLE),
         ["--quick"] => ratios::quick(),
+        ["--count"] => report::count(&WHOLE),
         ["--agree"] => agreement::agreement(),
         ["--one", chart, rule, program, count] => one(chart, rule, program, count),
         ["--files", chart, rule, folder] => files(chart, rule, folder),
@@ -59,6 +67,10 @@ fn run(words: &[&str]) -> Result<(), String> {
             bench::shown::ROWS.iter().for_each(|(chart, rule)| println!("{chart} {rule}"));
             Ok(())
         }
+        ["--counted"] => {
+            bench::counted::CHARTS.iter().for_each(|chart| println!("{chart} {}", bench::counted::name("mixed", 63)));
+            Ok(())
+        }
         _ => Err(USE.to_string()),
     }
 }
@@ -70,6 +82,9 @@ fn one(chart: &str, rule: &str, program: &str, count: &str) -> Result<(), String
         "peer" => checked(chart, rule, count, Input::peer)?,
         "library-show" => shown(chart, rule, count, Show::library)?,
         "peer-show" => shown(chart, rule, count, Show::peer)?,
+        "library-count" => counted(chart, rule, count, Count::library)?,
+        "plain-count" => counted(chart, rule, count, Count::plain)?,
+        "peer-count" => counted(chart, rule, count, Count::quick)?,
         _ => return Err(format!("{program} is no program")),
     };
     if accepted {
@@ -89,6 +104,12 @@ fn checked(chart: &str, rule: &str, count: u32, check: fn(&Input, &mut Buffers) 
 fn shown(chart: &str, rule: &str, count: u32, show: fn(&Show, &mut Lent) -> Answer) -> Result<bool, String> {
     let ((input, steps), mut lent) = (Show::named(chart, rule)?, Lent::whole());
     Ok((0..count).all(|_| show(&input, &mut lent).steps() == Some(steps)))
+}
+
+/// Whether all of so many counts of the minutes accept.
+fn counted(chart: &str, rule: &str, times: u32, count: fn(&Count, &mut Buffers) -> (u32, u32)) -> Result<bool, String> {
+    let (input, mut lent) = (Count::named(chart, rule)?, count::lent());
+    Ok((0..times).all(|_| count(&input, &mut lent) == (0, 0)))
 }
 
 fn files(chart: &str, rule: &str, folder: &str) -> Result<(), String> {

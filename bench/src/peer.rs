@@ -1,22 +1,30 @@
 //! A plain peer of the library's check, by the published method: shortest times by Dijkstra's search backwards from the
 //! goals, longest times over strongly connected components. It parses, refuses and marks as the library does. A run is
-//! shown by a search over steps after that.
+//! shown by a search over steps after that. Counting the minutes is a method of its own, over the same chart and rule,
+//! written twice: quick and plain.
 
 mod arrows;
 mod chart;
 mod components;
+mod count;
 mod counts;
 mod layers;
 mod longest;
+mod minutes;
+mod rounds;
+mod rows;
 mod rule;
 mod settle;
 mod shortest;
 mod show;
+mod slots;
+mod waiting;
 
 use chart::Chart;
 use rule::Rule;
 use settle::Settler;
 
+pub use count::{count, plain_count};
 pub use show::{show, Written};
 
 /// Number and place of a refusal; both 0 on success.
@@ -47,9 +55,13 @@ pub fn check(chart: &[u8], rule: &[u8], marks: &mut [u8], scratch: &mut [u32]) -
     }
 }
 
+/// Refusals 1 to 16. One function for check and count, so that neither changes the code that the other is compiled to.
+fn read(chart: &[u8], rule: &[u8]) -> Result<(Chart, Rule), Outcome> {
+    Ok((Chart::read(chart)?, Rule::read(rule)?))
+}
+
 fn accept(chart: &[u8], rule: &[u8], marks: &mut [u8], scratch: &mut [u32]) -> Result<(Chart, Rule), Outcome> {
-    let chart = Chart::read(chart)?;
-    let rule = Rule::read(rule)?;
+    let (chart, rule) = read(chart, rule)?;
     let n = chart.labels.len();
     let marks = marks.get_mut(..rule.nodes.len() * n).ok_or(refusal(17, 0))?;
     let scratch = scratch.get_mut(..4 * n).ok_or(refusal(18, 0))?;

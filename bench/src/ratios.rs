@@ -1,9 +1,10 @@
 //! Times of the library as ratios to the peer's.
 
+use crate::count::Count;
 use crate::input::Input;
 use crate::show::Show;
 use crate::timing::{Pair, Plan};
-use bench::{families, rules, shown, small};
+use bench::{counted, families, rules, shown, small};
 use std::time::Duration;
 
 /// The times on the family's chart that has the greatest ratio.
@@ -43,6 +44,7 @@ pub fn quick() -> Result<(), String> {
     }
     small_charts()?;
     shown_runs()?;
+    counted_minutes()?;
     println!("geometric mean {:.2}, worst family {:.2} {}", geometric_mean(&all), worst.0, worst.1);
     Ok(())
 }
@@ -65,6 +67,27 @@ fn shown_runs() -> Result<(), String> {
         let (show, _) = Show::named(chart, rule)?;
         let ratio = show.times(&QUICK).map_err(|why| format!("show, {chart}, {rule}: {why}"))?.ratio();
         println!("{rule:17}{ratio:8.2}");
+    }
+    Ok(())
+}
+
+/// First the ratios to the plain peer, then those to the quick one.
+fn counted_minutes() -> Result<(), String> {
+    let names = line(counted::UNTILS.iter().map(|name| name.to_string()));
+    println!("{:17}{:42}to the quick peer", "", "to the plain peer");
+    println!("{:17}{names}  {names}", "");
+    for chart in counted::CHARTS {
+        for c in counted::BOUNDS {
+            let (mut plain, mut quick) = (Vec::new(), Vec::new());
+            for rule in counted::UNTILS.map(|untils| counted::name(untils, c)) {
+                let times = Count::named(chart, &rule)?.times(&QUICK);
+                let times = times.map_err(|why| format!("count, {chart}, {rule}: {why}"))?;
+                plain.push(format!("{:.2}", times.to_plain()));
+                quick.push(format!("{:.2}", times.to_quick()));
+            }
+            let name = format!("{chart} {c}");
+            println!("{name:17}{}  {}", line(plain.into_iter()), line(quick.into_iter()));
+        }
     }
     Ok(())
 }

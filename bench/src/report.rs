@@ -1,6 +1,8 @@
 //! The Markdown tables of the benchmark.
 
 use crate::agreement::agreement;
+use crate::count_agreement::count_agreement;
+use crate::count_tables::count_tables;
 use crate::input::Input;
 use crate::ratios::worst_chart;
 use crate::show::Show;
@@ -14,14 +16,26 @@ pub const GROWING: [&str; 5] = ["random", "chain", "chain-loop", "zigzag", "hidd
 
 pub fn all(plan: &Plan) -> Result<(), String> {
     agreement()?;
-    println!("\nTimes in microseconds per call; {} batches of each program, fewer for slow inputs,", plan.batches);
-    println!("taken in turn in one run after a warm-up. Marks and scratch are not cleared between calls; check clears");
-    println!("its scratch itself.\n");
+    how(plan);
     by_family(plan)?;
     growth(plan)?;
     worst::table()?;
     shown_runs(plan)?;
+    count_tables(plan)?;
     map_checks(plan)
+}
+
+/// The tables of count alone.
+pub fn count(plan: &Plan) -> Result<(), String> {
+    count_agreement()?;
+    how(plan);
+    count_tables(plan)
+}
+
+fn how(plan: &Plan) {
+    println!("\nTimes in microseconds per call; {} batches of each program, fewer for slow inputs,", plan.batches);
+    println!("taken in turn in one run after a warm-up. Marks and scratch are not cleared between calls; check clears");
+    println!("its scratch itself.\n");
 }
 
 fn row(name: &str, times: &Pair) {

@@ -39,35 +39,44 @@ impl Pair {
     }
 }
 
-/// Batches of both calls taken in turn, so that a slower spell of the machine meets both; of the faster one more are
-/// taken if the other is slow.
-pub fn in_turn(plan: &Plan, mut library: impl FnMut(), mut peer: impl FnMut()) -> Pair {
-    let (batches, count) = warm_up(plan, &mut library);
-    let (peer_batches, peer_count) = warm_up(plan, &mut peer);
-    let mut times = (Vec::new(), Vec::new());
-    for turn in 0..batches.max(peer_batches) {
-        if turn < batches {
-            times.0.push(per_call(count, &mut library));
-        }
-        if turn < peer_batches {
-            times.1.push(per_call(peer_count, &mut peer));
-        }
-    }
-    Pair { library: summary(times.0), peer: summary(times.1) }
+/// The times of both calls, whose batches are taken in turn.
+pub fn in_turn(plan: &Plan, library: impl FnMut(), peer: impl FnMut()) -> Pair {
+    let [library, peer] = all_in_turn(plan, [&mut batches(library), &mut batches(peer)]);
+    Pair { library, peer }
 }
 
-pub fn alone(plan: &Plan, mut call: impl FnMut()) -> Times {
-    let (batches, count) = warm_up(plan, &mut call);
-    summary((0..batches).map(|_| per_call(count, &mut call)).collect())
+/// A batch of so many calls; answers the time per call.
+pub fn batches(mut call: impl FnMut()) -> impl FnMut(u32) -> f64 {
+    move |count| per_call(count, &mut call)
+}
+
+/// Batches taken in turn, so that a slower spell of the machine meets all; of the faster ones more are taken if another
+/// is slow.
+pub fn all_in_turn<const N: usize>(plan: &Plan, mut programs: [&mut dyn FnMut(u32) -> f64; N]) -> [Times; N] {
+    let plans = programs.each_mut().map(|batch| warm_up(plan, batch));
+    let mut times = [const { Vec::new() }; N];
+    for turn in 0..plans.iter().map(|&(batches, _)| batches).max().unwrap_or(0) {
+        for ((batch, times), &(batches, count)) in programs.iter_mut().zip(&mut times).zip(&plans) {
+            if turn < batches {
+                times.push(batch(count));
+            }
+        }
+    }
+    times.map(summary)
+}
+
+pub fn alone(plan: &Plan, call: impl FnMut()) -> Times {
+    let [times] = all_in_turn(plan, [&mut batches(call)]);
+    times
 }
 
 /// Calls until a batch lasts long enough; answers the batches to take and the calls in each.
-fn warm_up(plan: &Plan, call: &mut impl FnMut()) -> (usize, u32) {
+fn warm_up(plan: &Plan, batch: &mut dyn FnMut(u32) -> f64) -> (usize, u32) {
     let mut count = 1;
     loop {
-        let batch = per_call(count, call) * f64::from(count);
-        if batch >= micros(plan.batch) {
-            return (plan.batches_of(batch), count);
+        let time = batch(count) * f64::from(count);
+        if time >= micros(plan.batch) {
+            return (plan.batches_of(time), count);
         }
         count *= 2;
     }

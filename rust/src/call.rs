@@ -46,6 +46,17 @@ extern "C" {
         scratch_size: usize,
     ) -> Outcome;
     #[rustfmt::skip]
+    pub fn doilystrand_count(
+        chart: *const u8,
+        chart_size: usize,
+        rule: *const u8,
+        rule_size: usize,
+        marks: *mut u8,
+        marks_size: usize,
+        scratch: *mut u32,
+        scratch_size: usize,
+    ) -> Outcome;
+    #[rustfmt::skip]
     pub fn doilystrand_show(
         chart: *const u8,
         chart_size: usize,

@@ -1,6 +1,7 @@
 //! Check, over lent buffers.
 
-use crate::{call, Outcome};
+use crate::marking::CHECK;
+use crate::Outcome;
 
 /// Marks every node of the rule at every state of the chart: byte t × n + s is 1 if node t holds at state s, else 0.
 ///
@@ -18,18 +19,5 @@ use crate::{call, Outcome};
 /// ```
 #[must_use = "the marks are written only on acceptance"]
 pub fn check(chart: &[u8], rule: &[u8], marks: &mut [u8], scratch: &mut [u32]) -> Outcome {
-    // SAFETY: each pointer comes with the length of its own slice, and the two that are written to overlap no other.
-    let outcome = unsafe {
-        call::doilystrand_check(
-            chart.as_ptr(),
-            chart.len(),
-            rule.as_ptr(),
-            rule.len(),
-            marks.as_mut_ptr(),
-            marks.len(),
-            scratch.as_mut_ptr(),
-            scratch.len(),
-        )
-    };
-    outcome.of_call(&[1..=19])
+    CHECK.call(chart, rule, marks, scratch).of_call(&[1..=19])
 }

@@ -25,9 +25,11 @@
 mod arrow;
 mod call;
 mod check;
+mod count;
 mod kind;
 mod limits;
 mod map;
+mod marking;
 mod marks;
 mod outcome;
 mod refusals;
@@ -40,9 +42,10 @@ mod why;
 
 pub use arrow::{arrow, ArrowWords};
 pub use check::check;
+pub use count::count;
 pub use kind::{kind_of_rule, Kind, KindAnswer};
 pub use limits::{MAX_ARROWS, MAX_CHART, MAX_MAP, MAX_MARKS, MAX_NODES, MAX_RULE, MAX_SCRATCH, MAX_STATES, NO_END};
-pub use limits::{MAX_RUN, MAX_RUN_SCRATCH};
+pub use limits::{MAX_COUNT_BOUND, MAX_COUNT_SCRATCH, MAX_RUN, MAX_RUN_SCRATCH};
 pub use map::map_check;
 pub use marks::{marks, Marks};
 pub use outcome::{Outcome, Refusal};

@@ -26,6 +26,11 @@ pub const MAX_RUN: usize = 6 * MAX_POSITIONS;
 /// Numbers of scratch that are enough for every shown run.
 pub const MAX_RUN_SCRATCH: usize = MAX_POSITIONS * MAX_STATES;
 
+/// The greatest bound that is counted to.
+pub const MAX_COUNT_BOUND: usize = 255;
+/// Numbers of scratch that are enough for every count: one for each minute left, at each state.
+pub const MAX_COUNT_SCRATCH: usize = (MAX_COUNT_BOUND + 1) * MAX_STATES;
+
 /// The most of an arrow whose slot has no end.
 pub const NO_END: u32 = 65_535;
 
@@ -33,7 +38,7 @@ pub const NO_END: u32 = 65_535;
 mod tests {
     use super::*;
     use crate::samples;
-    use crate::{check, map_check, show};
+    use crate::{check, count, map_check, show};
 
     fn defined(line: &str) -> Option<(&str, usize)> {
         let (name, value) = line.strip_prefix("#define DOILYSTRAND_")?.split_once(' ')?;
@@ -54,6 +59,8 @@ mod tests {
             ("MAX_SCRATCH", MAX_SCRATCH),
             ("MAX_RUN", MAX_RUN),
             ("MAX_RUN_SCRATCH", MAX_RUN_SCRATCH),
+            ("MAX_COUNT_BOUND", MAX_COUNT_BOUND),
+            ("MAX_COUNT_SCRATCH", MAX_COUNT_SCRATCH),
             ("NO_END", NO_END as usize),
         ];
         assert_eq!(header, ours);
@@ -64,6 +71,7 @@ mod tests {
         let (chart, rule, map) = (samples::largest_chart(), samples::largest_rule(), samples::largest_map());
         assert_eq!((chart.len(), rule.len(), map.len()), (MAX_CHART, MAX_RULE, MAX_MAP));
         assert!(check(&chart, &rule, &mut [0; MAX_MARKS], &mut [0; MAX_SCRATCH]).is_accepted());
+        assert!(count(&chart, &rule, &mut [0; MAX_MARKS], &mut vec![0; MAX_COUNT_SCRATCH]).is_accepted());
         assert!(map_check(&chart, &chart, &map).is_accepted());
     }
 
@@ -73,6 +81,20 @@ mod tests {
         let number = |m, s| check(&chart, &rule, &mut vec![0; m], &mut vec![0; s]).number;
         assert_eq!(number(MAX_MARKS - 1, MAX_SCRATCH), 17);
         assert_eq!(number(MAX_MARKS, MAX_SCRATCH - 1), 18);
+        let number = |m, s| count(&chart, &rule, &mut vec![0; m], &mut vec![0; s]).number;
+        assert_eq!(number(MAX_MARKS - 1, MAX_COUNT_SCRATCH), 17);
+        assert_eq!(number(MAX_MARKS, MAX_COUNT_SCRATCH - 1), 18);
+    }
+
+    #[test]
+    fn counts_go_to_the_greatest_bound() {
+        let chart = samples::largest_chart();
+        let outcome = |minutes| {
+            let (mut marks, mut scratch) = (vec![0; MAX_MARKS], vec![0; MAX_COUNT_SCRATCH]);
+            let outcome = count(&chart, &samples::some_run_of_at_least(minutes), &mut marks, &mut scratch);
+            (outcome.number, outcome.place)
+        };
+        assert_eq!([outcome(MAX_COUNT_BOUND), outcome(MAX_COUNT_BOUND + 1)], [(0, 0), (63, 2)]);
     }
 
     #[test]

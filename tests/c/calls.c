@@ -14,6 +14,8 @@ _Static_assert(DOILYSTRAND_MAX_MARKS == 64 * 256, "largest marks table");
 _Static_assert(DOILYSTRAND_MAX_SCRATCH == 4 * 256, "largest scratch");
 _Static_assert(DOILYSTRAND_MAX_RUN == 257 * 6, "longest run");
 _Static_assert(DOILYSTRAND_MAX_RUN_SCRATCH == 257 * 256, "largest scratch of a run");
+_Static_assert(DOILYSTRAND_MAX_COUNT_BOUND == UINT8_MAX, "greatest bound of a count");
+_Static_assert(DOILYSTRAND_MAX_COUNT_SCRATCH == 256 * 256, "largest scratch of a count");
 _Static_assert(DOILYSTRAND_NO_END == UINT16_MAX, "no end");
 
 static int failures;
@@ -67,6 +69,46 @@ static void refusals_are_told(void) {
            "an empty marks table is not 17");
     expect(is(doilystrand_check(short_chart, sizeof short_chart, rule, sizeof rule, marks, 9, scratch, 11), 18, 0),
            "11 numbers are not 18");
+}
+
+/* What Short and a rule of three nodes are counted with: 9 marks and 768 numbers, and one more of each. */
+static uint8_t counted_marks[10];
+static uint32_t counted_scratch[769];
+
+static doilystrand_outcome counted(const uint8_t *chart, size_t chart_size, const uint8_t *of, size_t of_size,
+                                   size_t marks_size, size_t scratch_size) {
+    memset(counted_marks, 77, sizeof counted_marks);
+    for (int i = 0; i < 769; i++) counted_scratch[i] = 7;
+    return doilystrand_count(chart, chart_size, of, of_size, counted_marks, marks_size, counted_scratch, scratch_size);
+}
+
+/* The marks are these, so many first numbers of scratch are 0, and the others as lent. */
+static void expect_counted(const uint8_t *listed, size_t cleared) {
+    expect(memcmp(counted_marks, listed, sizeof counted_marks) == 0, "count leaves other marks");
+    for (size_t i = 0; i < 769; i++) expect(counted_scratch[i] == (i < cleared ? 0 : 7), "count leaves other numbers");
+}
+
+static void minutes_are_counted(void) {
+    static const uint8_t listed[] = {1, 1, 1, 0, 0, 1, 0, 1, 1, 77};
+    static const uint8_t lent[] = {77, 77, 77, 77, 77, 77, 77, 77, 77, 77};
+    uint8_t late_rule[sizeof rule], looped[sizeof short_chart];
+    size_t size = sizeof short_chart;
+    memcpy(late_rule, rule, sizeof rule);
+    late_rule[29] = 1; /* at most 269 */
+    memcpy(looped, short_chart, size);
+    looped[26] = 1, looped[28] = 0; /* the arrow of 0 to 4 leads back to state 1 */
+    expect(is(counted(short_chart, size, rule, sizeof rule, 10, 769), 0, 0), "count refuses Short");
+    expect_counted(listed, 768);
+    expect(is(counted(short_chart, size, rule, sizeof rule, 9, 768), 0, 0), "what is just enough for a count is not");
+    expect(is(counted(short_chart, size, late_rule, sizeof late_rule, 0, 0), 63, 2), "a bound of 269 is not 63");
+    expect_counted(lent, 0);
+    expect(is(counted(short_chart, size, rule, sizeof rule, 8, 767), 17, 0), "8 marks are not 17");
+    expect_counted(lent, 0);
+    expect(is(counted(short_chart, size, rule, sizeof rule, 9, 767), 18, 0), "767 numbers are not 18");
+    expect_counted(lent, 0);
+    expect(is(counted(looped, size, rule, sizeof rule, 9, 769), 19, 1), "a loop of zeros is not 19");
+    expect_counted(lent, 768);
+    expect(is(doilystrand_count(NULL, 0, NULL, 0, NULL, 0, NULL, 0), 1, 0), "nothing at all is not 1");
 }
 
 /* What Short and a rule of three nodes are shown with: 9 marks, 771 numbers and 18 bytes, and one more of each. */
@@ -203,6 +245,26 @@ static doilystrand_written show_the_longest(size_t scratch_size, size_t output_s
                             scratch, scratch_size, 2, 0, output, output_size);
 }
 
+/* E(true until true, at least 255): the greatest bound of a count, on the largest chart. */
+static doilystrand_outcome count_the_largest(size_t marks_size, size_t scratch_size) {
+    static uint8_t marks[DOILYSTRAND_MAX_MARKS];
+    static uint32_t scratch[DOILYSTRAND_MAX_COUNT_SCRATCH];
+    uint8_t greatest[sizeof long_rule];
+    memcpy(greatest, long_rule, sizeof greatest);
+    put(greatest + 29, DOILYSTRAND_MAX_COUNT_BOUND);
+    return doilystrand_count(largest_chart, sizeof largest_chart, greatest, sizeof greatest,
+                             marks, marks_size, scratch, scratch_size);
+}
+
+static void the_largest_is_counted(void) {
+    size_t marks = 3 * 256, scratch = DOILYSTRAND_MAX_COUNT_SCRATCH;
+    expect(is(count_the_largest(marks, scratch), 0, 0), "count refuses the largest chart");
+    expect(is(count_the_largest(marks - 1, scratch), 17, 0), "the largest count manages with fewer marks");
+    expect(is(count_the_largest(marks, scratch - 1), 18, 0), "the largest count manages with less scratch");
+    expect(is(doilystrand_count(largest_chart, sizeof largest_chart, long_rule, sizeof long_rule, NULL, 0, NULL, 0),
+              63, 2), "a bound of 256 is not 63");
+}
+
 static void the_longest_is_shown(void) {
     size_t scratch = DOILYSTRAND_MAX_RUN_SCRATCH, output = DOILYSTRAND_MAX_RUN;
     doilystrand_written w = show_the_longest(scratch, output);
@@ -224,12 +286,14 @@ static void the_largest_is_taken(void) {
 int main(void) {
     marks_are_written();
     refusals_are_told();
+    minutes_are_counted();
     runs_are_shown();
     kinds_are_told();
     maps_are_checked();
     rows_are_found();
     arrows_are_handed_out();
     the_largest_is_taken();
+    the_largest_is_counted();
     the_longest_is_shown();
     if (failures == 0) printf("calls: from C as promised\n");
     return failures != 0;

@@ -83,6 +83,11 @@ fn refuse_arrows(n: usize, arrows: &[u8]) -> Result<(), Outcome> {
     }
 }
 
+/// The arrows of an accepted chart in the order of the list, each with its start.
+pub fn listed(n: usize, bytes: &[u8]) -> impl Iterator<Item = (u16, Arrow)> + '_ {
+    bytes[9 + 2 * n..].chunks_exact(8).map(|a| (word(a, 0), seen(a, 2)))
+}
+
 /// The arrow with its other end read at `at`.
 fn seen(bytes: &[u8], at: usize) -> Arrow {
     Arrow { other: word(bytes, at), fewest: word(bytes, 4), most: word(bytes, 6) }

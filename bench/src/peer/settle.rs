@@ -13,7 +13,7 @@ pub struct Settler<'a> {
 }
 
 /// Row t of the rows settled so far.
-fn row(rows: &[u8], n: usize, t: usize) -> &[u8] {
+pub fn row(rows: &[u8], n: usize, t: usize) -> &[u8] {
     &rows[t * n..(t + 1) * n]
 }
 
@@ -35,13 +35,9 @@ impl<'a> Settler<'a> {
     fn settle_node(&mut self, node: Node, rows: &[u8], marks: &mut [u8]) {
         let n = marks.len();
         match node {
-            Node::True => marks.fill(1),
-            Node::Label(label) => fill(marks, |s| self.chart.labels[s] >> label & 1 == 1),
-            Node::Not(a) => fill(marks, |s| row(rows, n, a)[s] == 0),
-            Node::And(a, b) => fill(marks, |s| row(rows, n, a)[s] & row(rows, n, b)[s] == 1),
-            Node::Or(a, b) => fill(marks, |s| row(rows, n, a)[s] | row(rows, n, b)[s] == 1),
             Node::SomeRun(a, b, bound) => self.some_run(row(rows, n, a), row(rows, n, b), bound, marks),
             Node::AllRuns(a, b, bound) => self.all_runs(row(rows, n, a), row(rows, n, b), bound, marks),
+            _ => plain_node(&self.chart.labels, node, rows, marks),
         }
     }
 
@@ -105,7 +101,20 @@ impl<'a> Settler<'a> {
     }
 }
 
-fn fill(marks: &mut [u8], holds: impl Fn(usize) -> bool) {
+/// The marks of a node that is no until.
+pub fn plain_node(labels: &[u16], node: Node, rows: &[u8], marks: &mut [u8]) {
+    let n = marks.len();
+    match node {
+        Node::True => marks.fill(1),
+        Node::Label(label) => fill(marks, |s| labels[s] >> label & 1 == 1),
+        Node::Not(a) => fill(marks, |s| row(rows, n, a)[s] == 0),
+        Node::And(a, b) => fill(marks, |s| row(rows, n, a)[s] & row(rows, n, b)[s] == 1),
+        Node::Or(a, b) => fill(marks, |s| row(rows, n, a)[s] | row(rows, n, b)[s] == 1),
+        Node::SomeRun(..) | Node::AllRuns(..) => {}
+    }
+}
+
+pub fn fill(marks: &mut [u8], holds: impl Fn(usize) -> bool) {
     for (s, mark) in marks.iter_mut().enumerate() {
         *mark = u8::from(holds(s));
     }

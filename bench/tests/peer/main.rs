@@ -1,6 +1,8 @@
 //! Tests of the peer and of the benchmark's inputs.
 
 mod common;
+mod count;
+mod counted;
 mod drawn;
 mod inputs;
 mod items;

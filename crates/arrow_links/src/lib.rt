@@ -26,7 +26,7 @@ pub fn link(chart: &[u8], n: usize, m: usize, firsts: &mut [u32], nexts: &mut [u
     let mut i = m;
     while 0 < i {
         i -= 1;
-        let a = hints::arrow(chart, n, i);
+        let a = arrows::arrow(chart, n, i);
         let s = a.start;
         nexts[i] = firsts[s];
         firsts[s] = i as u32;

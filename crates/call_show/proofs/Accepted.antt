@@ -3,7 +3,7 @@ use mathlib.Core.Path.{_≡_, refl, ap, _∙_}
 use mathlib.Core.Logic.{_↔_, _⊎_, inl, inr, by-cases}
 use mathlib.Core.Bool.{Bool, true, false, _||_, false≢true}
 use mathlib.Core.Bool.{not as neg}
-use mathlib.Core.List.{List, [], _∷_}
+use mathlib.Core.List.{List}
 use Prim.Native.Nat.{ℕ, _≤_, _<_}
 use native.Mathlib.Omega.{arith}
 use native.Mathlib.Decide.{decLe}
@@ -17,20 +17,17 @@ use Rattle.model.specs.Decide.{holds}
 use Rattle.model.specs.Marks.{mark}
 use Rattle.model.proofs.Decide.{holds-iff}
 use Rattle.outcome.proofs.First.{zero-iff}
-use Rattle.outcome.proofs.Unmet.{unmet-append-iff}
 use Rattle.chart.specs.Bytes.{stateCount, chartOf}
-use Rattle.chart.specs.Refusals.{chartTable}
 use Rattle.chart.proofs.Chart.{states-of}
 use Rattle.rule.specs.Bytes.{nodeCount, nodeWords}
 use Rattle.rule.specs.Refusals.{ruleRefusal}
 use Rattle.rule.specs.Formula.{formulaAt}
-use Rattle.loops.specs.Refusal.{loopRow, acceptedTable}
-use Rattle.loops.proofs.Accepted.{unmet-iff}
 use Rattle.shown.specs.Shown.{Showable}
 use Rattle.shown.specs.Showable.{showable}
 use Rattle.shown.proofs.Meaning.{showable-iff}
-use Rattle.call_check.specs.Check.{checkTable, checkRefusal, Tells, Meaning}
-use Rattle.call_check.proofs.Chain.{check-numbered, input-iff, check-iff, chart-iff}
+use Rattle.call_check.specs.Check.{checkTable, checkRefusal}
+use Rattle.judge.specs.Judge.{Tells, Meaning}
+use Rattle.judge.proofs.Chain.{judge-numbered, input-iff, judge-iff, chart-iff}
 use Rattle.show_refusals.specs.Rows.{shownBy}
 use Rattle.show_refusals.proofs.Words.{shown-by}
 use Rattle.call_show.specs.Show.{noMark, RowsMean}
@@ -40,10 +37,10 @@ use Rattle.call_show.proofs.Fitting.{unfit-iff}
 pub check-chart :
     (chart rule marks scratch : List ℕ) → checkRefusal chart rule marks scratch .number ≡ 0 → Accepted (chartOf chart)
 check-chart chart rule marks scratch z =
-    let all = zero-iff (checkTable chart rule marks scratch) (check-numbered chart rule marks scratch) .0 z in
-    let parts = check-iff chart rule marks scratch .0 all in
-    let input = input-iff chart rule marks scratch .0 (parts .0) in
-    chart-iff chart .0 (input .0 .0, parts .1) .meaning
+    let all = zero-iff (checkTable chart rule marks scratch) (judge-numbered chart rule marks scratch false) .0 z in
+    let parts = judge-iff false chart rule marks scratch .0 all in
+    let input = input-iff false chart rule marks scratch .0 (parts .0) in
+    chart-iff chart .0 (input .0 .0 .0, parts .1) .meaning
 
 -- ── Marks ──
 

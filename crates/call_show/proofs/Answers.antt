@@ -43,10 +43,11 @@ use Rattle.shown.proofs.Walks.{SlotUpTo}
 use Rattle.step_numbers.specs.Stored.{heft}
 use Rattle.step_numbers.proofs.Slots.{arrow-slots}
 use Rattle.run_walk.specs.RunBytes.{runBytes}
-use Rattle.call_check.specs.Check.{checkTable, checkRefusal, marksOf, marksAfter, Checked}
-use Rattle.call_check.proofs.Chain.{Admitted, check-numbered}
-use Rattle.call_check.proofs.Marks.{front-size, marks-length}
-use Rattle.call_check.proofs.Promise.{cleared-admitted, accepted-marks, cleared-scratch}
+use Rattle.call_check.specs.Check.{checkTable, checkRefusal, Checked}
+use Rattle.judge.specs.Judge.{judgeTable, marksOf, marksAfter}
+use Rattle.judge.proofs.Chain.{Admitted, judge-numbered}
+use Rattle.judge.proofs.Marks.{front-size, marks-length}
+use Rattle.judge.proofs.Promise.{cleared-admitted, accepted-marks, cleared-scratch}
 use Rattle.loops.proofs.Scratch.{unused}
 use Rattle.show_refusals.specs.Rows.{markRows, MarksLent}
 use Rattle.show_refusals.proofs.Words.{shown-by, shown-cases}
@@ -129,7 +130,7 @@ module _
   pub check-showed :
       ¬ (o .number ≡ 0) →
       Showed chart rule marks scratch node state output (record { outcome = o; written = 0 }) newMarks newScratch output
-  unfolding checkTable chartTable ruleTable loopRow showTable
+  unfolding judgeTable chartTable ruleTable loopRow showTable
   check-showed h =
       let low = number-le 19 (checkTable chart rule marks scratch) refl in
       nothing (part-refuses (checkTable chart rule marks scratch) (marked ++ fits) (c .answer) h) h
@@ -141,7 +142,7 @@ module _
     acc : Accepted (chartOf chart)
     acc = check-chart chart rule marks scratch (sym number ∙ z)
 
-    admitted : Admitted chart rule marks scratch
+    admitted : Admitted false chart rule marks scratch
     admitted = cleared-admitted c (inl z)
 
     abbrev size : ℕ
@@ -198,8 +199,8 @@ module _
           let same = ap (λ (y : Outcome). y .number) asked in
           let low = number-le 61 marked refl in
           nothing
-          (part-passes (checkTable chart rule marks scratch) (marked ++ fits) (check-numbered chart rule marks scratch)
-          (c .answer) z (part-refuses marked fits asked h)) h
+          (part-passes (checkTable chart rule marks scratch) (marked ++ fits)
+          (judge-numbered chart rule marks scratch false) (c .answer) z (part-refuses marked fits asked h)) h
           (λ i. absurd (let w : ⊥ = omega arith in w))
 
       -- what rows 60 and 61 leave: a mark that can be shown, and room for the table
@@ -302,7 +303,7 @@ module _
             unfolding showTable
             last h =
                 part-passes (checkTable chart rule marks scratch) (marked ++ fits)
-                (check-numbered chart rule marks scratch) (c .answer) z (part-passes marked fits tt asked w h)
+                (judge-numbered chart rule marks scratch false) (c .answer) z (part-passes marked fits tt asked w h)
 
             module _ {newTable : List ℕ} (cleared : newTable ≡ tableCleared m newScratch) where
               -- past the table scratch is as lent: check cleared no more

@@ -25,13 +25,14 @@ use Rattle.rule.specs.Refusals.{ruleTable, ruleRefusal}
 use Rattle.rule.proofs.Accepted.{accepted}
 use Rattle.loops.specs.Refusal.{loopRow}
 use Rattle.call_check.specs.Check.{checkTable}
-use Rattle.call_check.proofs.Chain.{check-numbered, input-iff, check-iff}
+use Rattle.judge.specs.Judge.{judgeTable}
+use Rattle.judge.proofs.Chain.{judge-numbered, input-iff, judge-iff}
 use Rattle.show_refusals.specs.Fits.{tableSize, unfit}
 use Rattle.call_show.specs.Show.{noMark, stepsOf, showTable, showRefusal}
 
 module _ (chart rule marks scratch : List ℕ) (node state : ℕ) (output : List ℕ) where
   pub show-numbered : Numbered (showTable chart rule marks scratch node state output)
-  unfolding showTable checkTable chartTable ruleTable loopRow
+  unfolding showTable judgeTable chartTable ruleTable loopRow
   show-numbered = tt
 
   -- none of check's rows is met, nor 60, 61 and 62
@@ -76,8 +77,8 @@ module _ (chart rule marks scratch : List ℕ) (node state : ℕ) (output : List
   unfolding ruleTable
   shown-node-whole z =
       let h = show-iff .0 (zero-iff (showTable chart rule marks scratch node state output) show-numbered .0 z) in
-      let parts = input-iff chart rule marks scratch .0 (check-iff chart rule marks scratch .0 (h .0) .0) in
-      let ok : ruleRefusal rule .number ≡ 0 = zero-iff (ruleTable rule) tt .1 (parts .0 .1) in
+      let parts = input-iff false chart rule marks scratch .0 (judge-iff false chart rule marks scratch .0 (h .0) .0) in
+      let ok : ruleRefusal rule .number ≡ 0 = zero-iff (ruleTable rule) tt .1 (parts .0 .0 .1) in
       let low : node < nodeCount rule =
       leb-false (nodeCount rule) node (or-false (leb (nodeCount rule) node) _ (h .1) .0) in
       omega (arith, low, accepted rule ok .shape .whole)
@@ -87,12 +88,13 @@ module _ (chart rule marks scratch : List ℕ) (node state : ℕ) (output : List
       (showRefusal chart rule marks scratch node state output .number ≡ 0) ⊎
       (showRefusal chart rule marks scratch node state output .number ≡ 62) →
       tableSize (stateCount chart) ≤ length scratch
-  unfolding showTable checkTable chartTable ruleTable loopRow first
+  unfolding showTable judgeTable chartTable ruleTable loopRow first
   table-lent w =
       by-cases (decLe (tableSize (stateCount chart)) (length scratch)) (λ l. l)
       (λ l.
       absurd (by-cases (ℕ-discrete (first checks .number) 0)
-      (λ z. neither w (ap number (sym (part-passes checks own (check-numbered chart rule marks scratch) refl z refl)))
+      (λ z. neither w
+      (ap number (sym (part-passes checks own (judge-numbered chart rule marks scratch false) refl z refl)))
       (short (noMark chart rule node state) _ (lt-ltb (length scratch) (tableSize (stateCount chart)) (omega arith))
       (whole (unfit (length output) (stepsOf chart rule node state)))))
       (λ h. low w (ap number (sym (part-refuses checks own refl h))) h (number-le 19 checks refl))))

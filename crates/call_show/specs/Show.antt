@@ -1,7 +1,7 @@
 -- The call show. The quoted words are of 02, paper 1.
 use mathlib.Core.Path.{_≡_}
 use mathlib.Core.Logic.{_↔_, _⊎_}
-use mathlib.Core.Bool.{Bool, true, cond, _||_}
+use mathlib.Core.Bool.{Bool, true, false, cond, _||_}
 use mathlib.Core.Bool.{not as neg}
 use mathlib.Core.List.{List, [], _∷_, _++_}
 use mathlib.Core.Option.{Option}
@@ -19,7 +19,8 @@ use Rattle.shown.specs.Shown.{Position, durationAt, stateAt, Reason, Showable, 
 use Rattle.shown.specs.Steps.{fewestSteps}
 use Rattle.shown.specs.Showable.{showable, questOf}
 use Rattle.run_walk.specs.RunBytes.{runBytes}
-use Rattle.call_check.specs.Check.{checkTable, checkRefusal, marksAfter, scratchAfter, Meaning}
+use Rattle.call_check.specs.Check.{checkTable, checkRefusal}
+use Rattle.judge.specs.Judge.{marksAfter, scratchAfter, Meaning}
 use Rattle.show_refusals.specs.Fits.{tableSize, tableCleared, unfit}
 
 module _ (chart rule : List ℕ) (node state : ℕ) where
@@ -55,7 +56,8 @@ showRefusal chart rule marks scratch node state output =
 -- numbers are check's and show's
 unfoldable pub tableAfter : List ℕ → ℕ → ℕ → List ℕ → List ℕ
 tableAfter chart checked number scratch =
-    cond (eqb number 0 || eqb number 62) (tableCleared (stateCount chart) scratch) (scratchAfter chart checked scratch)
+    cond (eqb number 0 || eqb number 62) (tableCleared (stateCount chart) scratch)
+    (scratchAfter false chart checked scratch)
 
 -- a run that the bytes can tell: "the state (2 bytes) and duration (4)"
 pub record Writable (shown : List Position) : Type 0 where

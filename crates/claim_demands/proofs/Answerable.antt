@@ -1,6 +1,7 @@
--- Check's promise can be met: by the answer of its table, the marks that the model decides, and scratch cleared.
+-- The promises can be met: by the answer of the table, the marks that the model decides, and scratch cleared.
 use mathlib.Core.Path.{_≡_, refl, sym, ap, _∙_}
 use mathlib.Core.Logic.{by-cases}
+use mathlib.Core.Bool.{false, false≢true}
 use mathlib.Core.List.{List, [], _∷_, _++_}
 use Prim.Native.Nat.{ℕ, _*_, _≤_, _<_}
 use native.Mathlib.Nat.{le-of-eq}
@@ -19,13 +20,14 @@ use Rattle.rule.specs.Formula.{formulaAt}
 use Rattle.loops.specs.Refusal.{loopRow}
 use Rattle.nodes.specs.Right.{Right}
 use Rattle.room.specs.Room.{scratchSize}
-use Rattle.call_check.specs.Check.{checkRefusal, marksOf, Checked}
-use Rattle.call_check.specs.Judged.{inputTable, Judged}
-use Rattle.call_check.proofs.Chain.{input-passes}
-use Rattle.call_check.proofs.Marks.{front-size, past-front, marks-length}
-use Rattle.call_check.proofs.Answers.{refused-checked, judged-checked}
+use Rattle.call_check.specs.Check.{checkRefusal}
+use Rattle.judge.specs.Judge.{marksOf, Promised}
+use Rattle.judge.specs.Judged.{inputTable, Judged}
+use Rattle.judge.proofs.Chain.{input-passes}
+use Rattle.judge.proofs.Marks.{front-size, past-front, marks-length}
+use Rattle.judge.proofs.Answers.{refused-answered, judged-answered}
 use Rattle.claim_demands.specs.Answerable.{Answerable, SomeMarks}
-use Rattle.claim_demands.proofs.Check.{check-accepts}
+use Rattle.claim_demands.proofs.Judge.{judge-accepts}
 
 module _ (chart rule : List ℕ) where
   abbrev n : ℕ
@@ -45,12 +47,12 @@ module _ (chart rule : List ℕ) where
 
 -- Rows 1 to 18 refuse, and nothing is written; or row 19 does, and scratch is cleared; or the marks are written too.
 pub answerable : Answerable
-answerable chart rule marks scratch =
+answerable counting chart rule marks scratch =
     by-cases (ℕ-discrete (inputs .number) 0) passed
-    (λ h. (inputs, marks, scratch, refused-checked chart rule marks scratch refl h))
+    (λ h. (inputs, marks, scratch, refused-answered counting chart rule marks scratch refl h))
   where
     inputs : Outcome
-    inputs = first (inputTable chart rule marks scratch)
+    inputs = first (inputTable counting chart rule marks scratch)
 
     last : Outcome
     last = first (loopRow chart ∷ [])
@@ -78,21 +80,21 @@ answerable chart rule marks scratch =
     Answer : Type 0
     Answer =
         (r : Outcome) × (newMarks : List ℕ) × (newScratch : List ℕ) ×
-        Checked chart rule marks scratch r newMarks newScratch
+        Promised counting chart rule marks scratch r newMarks newScratch
 
     answer : inputs .number ≡ 0 → (new : List ℕ) → judged new → Answer
-    answer z new j = (last, new, _, judged-checked chart rule marks scratch refl z refl refl j refl)
+    answer z new j = (last, new, _, judged-answered counting chart rule marks scratch refl z refl refl j refl)
 
     passed : inputs .number ≡ 0 → Answer
     passed z =
         by-cases (ℕ-discrete (last .number) 0)
-        (λ w. answer z _ (written (input-passes chart rule marks scratch refl z .table) w))
+        (λ w. answer z _ (written (input-passes counting chart rule marks scratch refl z .table) w))
         (λ h. answer z _ (kept h))
 
 -- Just enough room is lent, so check accepts, and leaves such marks as its promise can be met by.
 pub some-marks : SomeMarks
 some-marks chart rule accepted unrefused =
-    let left = answerable chart rule marks scratch in (
+    let left = answerable false chart rule marks scratch in (
       left .1,
       record {
         marks = marks;
@@ -112,10 +114,11 @@ some-marks chart rule accepted unrefused =
 
     success-answered : checkRefusal chart rule marks scratch ≡ success
     success-answered =
-        check-accepts chart rule marks scratch .1
+        judge-accepts false chart rule marks scratch .1
         record {
           chart-accepted = accepted;
           rule-accepted = unrefused;
+          bounds = λ e. absurd (false≢true e);
           table = le-of-eq (sym (length-replicate {A = ℕ} (nodeCount rule * stateCount chart) 0));
           room = le-of-eq (sym (length-replicate {A = ℕ} (scratchSize (stateCount chart)) 0));
         }

@@ -38,7 +38,7 @@ use Rattle.call_map.specs.Refusals.{mapCheckTable}
 use Rattle.claim_demands.specs.FirstDemand.{KindTold, Wholly, PlaceTold, Itself, RowTold}
 use Rattle.claim_demands.specs.FirstDemand.{HandedTold, StepTold, NextTold, FirstDemand}
 use Rattle.claim_demands.proofs.Answers.{answers}
-use Rattle.claim_demands.proofs.Check.{rule-iff, check-unbroken}
+use Rattle.claim_demands.proofs.Judge.{rule-iff, judge-unbroken}
 use Rattle.claim_demands.proofs.Show.{show-told}
 use Rattle.claim_demands.proofs.MapCheck.{map-check-exact}
 
@@ -150,7 +150,8 @@ chart-rows-iff s = success-iff (chartTable s) tt
 pub first-demand : FirstDemand
 first-demand =
     record {
-      check = check-unbroken;
+      check = judge-unbroken false;
+      count = judge-unbroken true;
       show = show-told;
       kind-of-rule = kind-told;
       map-check = λ d o p r e. answers (mapCheckTable d o p) e (map-check-exact d o p);

@@ -1,8 +1,9 @@
 pub mod Answers
-pub mod Check
+pub mod Judge
 pub mod TrueReasons
 pub mod Show
 pub mod MapCheck
 pub mod DetailRule
 pub mod FirstDemand
 pub mod Answerable
+pub mod FillsAlike

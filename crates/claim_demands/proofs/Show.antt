@@ -1,7 +1,7 @@
 -- Show: its part of the first demand, from its promise alone.
 use mathlib.Core.Path.{_≡_, refl, sym, ap, ap₂, subst, _∙_}
 use mathlib.Core.Logic.{_↔_, _⊎_, inl, inr, Iff·symm, Iff·trans, ⊎-map, by-cases}
-use mathlib.Core.Bool.{true, false, false≢true}
+use mathlib.Core.Bool.{false, false≢true}
 use mathlib.Core.List.{List, [], _++_}
 use mathlib.Core.Option.{Option, none, some}
 use Prim.Native.Nat.{ℕ, suc, _*_, _<_}
@@ -31,9 +31,10 @@ use Rattle.shown.proofs.Table.{walk-length}
 use Rattle.shown.proofs.Meaning.{showable-iff, found-shortest, none-iff}
 use Rattle.run_walk.specs.RunBytes.{runBytes}
 use Rattle.run_walk.proofs.RunBytes.{run-bytes-length}
-use Rattle.call_check.specs.Check.{checkTable, checkRefusal, marksAfter, scratchAfter}
-use Rattle.call_check.proofs.Marks.{front-size, past-front}
-use Rattle.call_check.proofs.Chain.{check-numbered}
+use Rattle.call_check.specs.Check.{checkTable, checkRefusal}
+use Rattle.judge.specs.Judge.{marksAfter, scratchAfter}
+use Rattle.judge.proofs.Marks.{front-size, past-front}
+use Rattle.judge.proofs.Chain.{judge-numbered}
 use Rattle.call_show.proofs.Passed.{Passes, show-numbered, show-iff, table-lent}
 use Rattle.call_show.specs.Show.{noMark, stepsOf, showTable, showRefusal, tableAfter, Showed}
 use Rattle.show_refusals.specs.Fits.{tableSize, unfit}
@@ -41,7 +42,7 @@ use Rattle.claim_demands.specs.Acceptable.{Acceptable}
 use Rattle.claim_demands.specs.FirstDemand.{Unbroken}
 use Rattle.claim_demands.specs.ShowTold.{Fitting, ShowAcceptable, ShowTold}
 use Rattle.claim_demands.proofs.Answers.{answers}
-use Rattle.claim_demands.proofs.Check.{check-accepts, zero-front, check-unbroken}
+use Rattle.claim_demands.proofs.Judge.{judge-accepts, zero-front, judge-unbroken}
 
 module _ (chart rule marks scratch : List ℕ) (node state : ℕ) (output : List ℕ) where
   abbrev quest : Quest
@@ -118,11 +119,11 @@ module _ (chart rule marks scratch : List ℕ) (node state : ℕ) (output : List
       (show-numbered chart rule marks scratch node state output))
       (Iff·trans (show-iff chart rule marks scratch node state output) (there, back))
     where
-      checks : (Unmet (checkTable chart rule marks scratch)) ↔ Acceptable chart rule marks scratch
+      checks : (Unmet (checkTable chart rule marks scratch)) ↔ Acceptable false chart rule marks scratch
       checks =
           Iff·trans
-          (Iff·symm (success-iff (checkTable chart rule marks scratch) (check-numbered chart rule marks scratch)))
-          (check-accepts chart rule marks scratch)
+          (Iff·symm (success-iff (checkTable chart rule marks scratch) (judge-numbered chart rule marks scratch false)))
+          (judge-accepts false chart rule marks scratch)
 
       there : Passes chart rule marks scratch node state output → ShowAcceptable chart rule marks scratch node state output
       there h =
@@ -190,11 +191,11 @@ show-told chart rule marks scratch node state output r newMarks newScratch newOu
 
     -- what check by itself would have left
     unbroken :
-        Unbroken chart rule marks scratch (checkRefusal chart rule marks scratch) newMarks
-        (scratchAfter chart checked scratch)
+        Unbroken false chart rule marks scratch (checkRefusal chart rule marks scratch) newMarks
+        (scratchAfter false chart checked scratch)
     unbroken =
-        check-unbroken chart rule marks scratch (checkRefusal chart rule marks scratch) newMarks
-        (scratchAfter chart checked scratch)
+        judge-unbroken false chart rule marks scratch (checkRefusal chart rule marks scratch) newMarks
+        (scratchAfter false chart checked scratch)
         (record { answer = refl; written = s .written; cleared = refl; meaning = s .meaning })
 
     zeroed :
@@ -205,7 +206,7 @@ show-told chart rule marks scratch node state output r newMarks newScratch newOu
 
     unzeroed :
         ¬ (r .outcome .number ≡ 0) → ¬ (r .outcome .number ≡ 62) →
-        tableAfter chart checked (r .outcome .number) scratch ≡ scratchAfter chart checked scratch
+        tableAfter chart checked (r .outcome .number) scratch ≡ scratchAfter false chart checked scratch
     unzeroed h k = simp (ne-eqb (r .outcome .number) 0 h, ne-eqb (r .outcome .number) 62 k)
 
     nothing : s .shown ≡ [] → (r .written ≡ 0) × (newOutput ≡ output)

@@ -1,20 +1,27 @@
--- What check accepts. The quoted conditions are of 01, "Refused with number and place".
+-- What check accepts, and count. The quoted conditions are of 01, "Refused with number and place", and of 02, paper 2.
 use mathlib.Core.Path.{_≡_}
+use mathlib.Core.Bool.{Bool, true}
 use mathlib.Core.List.{List}
-use Prim.Native.Nat.{ℕ, _*_, _≤_}
+use Prim.Native.Nat.{ℕ, _*_, _≤_, _<_}
 use lib.ListN.{length}
 use Rattle.outcome.specs.Refusal.{success}
 use Rattle.chart.specs.Bytes.{stateCount}
-use Rattle.rule.specs.Bytes.{nodeCount}
+use Rattle.rule.specs.Bytes.{nodeCount, nodeWords}
 use Rattle.rule.specs.Refusals.{ruleRefusal}
 use Rattle.loops.specs.Accepted.{AcceptedChart}
-use Rattle.room.specs.Room.{scratchSize}
+use Rattle.room.specs.Room.{sizeFor}
 
--- an accepted chart, an accepted rule, and room for the marks and for 4n numbers
-pub record Acceptable (chart rule marks scratch : List ℕ) : Type 0 where
+-- no node has "a bound above 255"
+abbrev pub ShortBounds : List ℕ → Type 0
+ShortBounds rule = (t : ℕ) → t < nodeCount rule → nodeWords rule t .c ≤ 255
+
+-- an accepted chart, an accepted rule, whose bounds go to 255 where minutes are counted, and room for the marks and for
+-- 4n numbers, or 256 × n
+pub record Acceptable (counting : Bool) (chart rule marks scratch : List ℕ) : Type 0 where
   pub chart-accepted : AcceptedChart chart
   pub rule-accepted : ruleRefusal rule ≡ success
+  pub bounds : counting ≡ true → ShortBounds rule
   -- not "marks table under k × n bytes"
   pub table : nodeCount rule * stateCount chart ≤ length marks
-  -- not "scratch under 4n numbers"
-  pub room : scratchSize (stateCount chart) ≤ length scratch
+  -- not "scratch under 4n numbers"; where minutes are counted "18 by that size", 256 × n
+  pub room : sizeFor counting (stateCount chart) ≤ length scratch

@@ -1,8 +1,10 @@
 -- The first demand: nothing handed over breaks a call. Every open call is proved to end, and has no `requires`; what
--- its promise says is said here in the papers' sentences, for whatever it was handed and all that it may answer and leave. An
--- exported call promises what the call behind it does. The quoted sentences are of 01.
+-- its promise says is said here in the papers' sentences, for whatever it was handed and all that it may answer and
+-- leave. An exported call promises what the call behind it does. The quoted sentences are of 01, those about count of
+-- 02, paper 2.
 use mathlib.Core.Path.{_≡_}
 use mathlib.Core.Logic.{_⊎_}
+use mathlib.Core.Bool.{Bool, true, false}
 use mathlib.Core.List.{List}
 use Prim.Native.Nat.{ℕ, _+_, _*_, _≤_, _<_}
 use lib.ListN.{length, getD, take, drop}
@@ -32,30 +34,35 @@ use Rattle.call_reader.specs.Reading.{handed, stepOf, moved}
 use Rattle.loops.specs.Accepted.{AcceptedChart}
 use Rattle.loops.specs.Refusal.{acceptedTable, acceptedRefusal}
 use Rattle.call_map.specs.Refusals.{mapCheckTable, mapRefusal}
-use Rattle.room.specs.Room.{scratchSize}
-use Rattle.call_check.specs.Check.{checkTable, Checked}
+use Rattle.room.specs.Room.{sizeFor}
+use Rattle.judge.specs.Judge.{judgeTable}
+use Rattle.call_check.specs.Check.{Checked}
+use Rattle.call_count.specs.Count.{Counted}
 use Rattle.call_show.specs.Show.{Showed}
 use Rattle.claim_demands.specs.Acceptable.{Acceptable}
 use Rattle.claim_demands.specs.Answers.{Answers}
 use Rattle.claim_demands.specs.DetailRule.{Premises}
 use Rattle.claim_demands.specs.ShowTold.{ShowTold}
 
--- ── Check ──
+-- ── Check and count ──
 
--- what check answers and leaves, whatever it was handed
-pub record Unbroken (chart rule marks scratch : List ℕ) (r : Outcome) (newMarks newScratch : List ℕ) : Type 0 where
-  pub answer : Answers (checkTable chart rule marks scratch) (Acceptable chart rule marks scratch) r
+-- what check answers and leaves, or count, whatever it was handed
+pub record Unbroken (counting : Bool) (chart rule marks scratch : List ℕ) (r : Outcome) (newMarks newScratch : List ℕ) :
+    Type 0 where
+  pub answer :
+      Answers (judgeTable counting chart rule marks scratch) (Acceptable counting chart rule marks scratch) r
   -- nothing is added to what was lent, or taken from it
   pub sizes : (length newMarks ≡ length marks) × (length newScratch ≡ length scratch)
   -- "later bytes keep their content"
   pub later-kept : (j : ℕ) → nodeCount rule * stateCount chart ≤ j → getD newMarks j 0 ≡ getD marks j 0
   -- "The marks table is as lent after every refusal."
   pub marks-kept : ¬ (r .number ≡ 0) → newMarks ≡ marks
-  -- "After acceptance, and after refusal 19, its first 4n numbers are 0"
+  -- "After acceptance, and after refusal 19, its first 4n numbers are 0"; for count "256 × n numbers, zero where 4n
+  -- were"
   pub cleared :
-      (r .number ≡ 0) ⊎ (r .number ≡ 19) → (i : ℕ) → i < scratchSize (stateCount chart) → getD newScratch i 0 ≡ 0
+      (r .number ≡ 0) ⊎ (r .number ≡ 19) → (i : ℕ) → i < sizeFor counting (stateCount chart) → getD newScratch i 0 ≡ 0
   -- "beyond those .. it is as lent"
-  pub beyond : (i : ℕ) → scratchSize (stateCount chart) ≤ i → getD newScratch i 0 ≡ getD scratch i 0
+  pub beyond : (i : ℕ) → sizeFor counting (stateCount chart) ≤ i → getD newScratch i 0 ≡ getD scratch i 0
   -- "and after any other refusal, it is as lent"
   pub scratch-kept : ¬ (r .number ≡ 0) → ¬ (r .number ≡ 19) → newScratch ≡ scratch
 
@@ -124,7 +131,11 @@ pub record FirstDemand : Type 0 where
   pub check :
       (chart rule marks scratch : List ℕ) (r : Outcome) (newMarks newScratch : List ℕ) →
       Checked chart rule marks scratch r newMarks newScratch →
-      Unbroken chart rule marks scratch r newMarks newScratch
+      Unbroken false chart rule marks scratch r newMarks newScratch
+  pub count :
+      (chart rule marks scratch : List ℕ) (r : Outcome) (newMarks newScratch : List ℕ) →
+      Counted chart rule marks scratch r newMarks newScratch →
+      Unbroken true chart rule marks scratch r newMarks newScratch
   pub show :
       (chart rule marks scratch : List ℕ) (node state : ℕ) (output : List ℕ) (r : Written)
       (newMarks newScratch newOutput : List ℕ) →

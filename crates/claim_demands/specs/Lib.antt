@@ -6,3 +6,4 @@ pub mod FirstDemand
 pub mod SecondDemand
 pub mod DetailRule
 pub mod Answerable
+pub mod FillsAlike

@@ -1,6 +1,7 @@
 -- What show answers and leaves, whatever it was handed. The quoted sentences are of 02, paper 1, and of 01, "Calls".
 use mathlib.Core.Path.{_≡_}
 use mathlib.Core.Logic.{_⊎_}
+use mathlib.Core.Bool.{false}
 use mathlib.Core.List.{List}
 use Prim.Native.Nat.{ℕ, _*_, _≤_, _<_}
 use lib.ListN.{length, getD, take}
@@ -10,7 +11,8 @@ use Rattle.rule.specs.Bytes.{nodeCount}
 use Rattle.rule.specs.Formula.{formulaAt}
 use Rattle.shown.specs.Shown.{Position, Showable, Shortest}
 use Rattle.run_walk.specs.RunBytes.{runBytes}
-use Rattle.call_check.specs.Check.{checkRefusal, scratchAfter, Meaning}
+use Rattle.call_check.specs.Check.{checkRefusal}
+use Rattle.judge.specs.Judge.{scratchAfter, Meaning}
 use Rattle.call_show.specs.Show.{TrueRun, showTable, RowsMean}
 use Rattle.show_refusals.specs.Fits.{tableSize}
 use Rattle.claim_demands.specs.Acceptable.{Acceptable}
@@ -26,7 +28,7 @@ pub record Fitting (chart rule : List ℕ) (node state : ℕ) (output : List ℕ
 -- what show accepts
 pub record ShowAcceptable (chart rule marks scratch : List ℕ) (node state : ℕ) (output : List ℕ) : Type 0 where
   -- "check's own first"
-  pub checked : Acceptable chart rule marks scratch
+  pub checked : Acceptable false chart rule marks scratch
   -- not "node or state out of range or not such a mark"
   pub node-inside : node < nodeCount rule
   pub state-inside : state < stateCount chart
@@ -66,7 +68,7 @@ pub record ShowTold
   -- "after 60 and 61 as check leaves it", and after check's own refusals
   pub as-checked :
       ¬ (r .outcome .number ≡ 0) → ¬ (r .outcome .number ≡ 62) →
-      newScratch ≡ scratchAfter chart (checkRefusal chart rule marks scratch .number) scratch
+      newScratch ≡ scratchAfter false chart (checkRefusal chart rule marks scratch .number) scratch
   -- "also answers how many bytes it wrote to each, 0 on a refusal"; "a refusal changes nothing in a lent buffer"
   pub refused : ¬ (r .outcome .number ≡ 0) → (r .written ≡ 0) × (newOutput ≡ output)
   -- "bytes past a result are kept"

@@ -2,7 +2,7 @@
 -- Holds for every listed 1 and its refutation for every listed 0.
 use mathlib.Core.Path.{_≡_, refl, sym, ap, subst}
 use mathlib.Core.Logic.{_⊎_, inl, inr}
-use mathlib.Core.Bool.{Bool, true, false, cond, _&&_}
+use mathlib.Core.Bool.{Bool, true, false, cond, _&&_, false≢true}
 use mathlib.Core.List.{List, List·Memᴰ}
 use Prim.Native.Nat.{ℕ, _*_, _≤_, _<_}
 use native.Mathlib.Omega.{arith}
@@ -33,7 +33,7 @@ use Rattle.loops.specs.Accepted.{AcceptedChart}
 use Rattle.loops.proofs.Accepted.{accepted-numbered, unmet-iff}
 use Rattle.room.specs.Room.{scratchSize}
 use Rattle.call_check.specs.Check.{checkRefusal}
-use Rattle.claim_demands.proofs.Check.{check-accepts}
+use Rattle.claim_demands.proofs.Judge.{judge-accepts}
 use Rattle.claim_items.specs.Items.{Item, items}
 use Rattle.claim_items.specs.ItemRight.{ItemRight}
 
@@ -102,5 +102,11 @@ pub items-accepted :
     checkRefusal (it .chart) (it .rule) marks scratch ≡ success
 items-accepted it m marks scratch table room =
     let r = items-right it m in
-    check-accepts (it .chart) (it .rule) marks scratch .1
-    record { chart-accepted = r .chart; rule-accepted = r .rule; table = table; room = room }
+    judge-accepts false (it .chart) (it .rule) marks scratch .1
+    record {
+      chart-accepted = r .chart;
+      rule-accepted = r .rule;
+      bounds = λ e. absurd (false≢true e);
+      table = table;
+      room = room;
+    }

@@ -10,13 +10,16 @@ use Rattle.chart.specs.Bytes.{arrowWords, chartOf}
 use Rattle.chart.specs.Refusals.{leftBy, chartTable}
 use Rattle.rule.specs.Bytes.{nodeWords}
 use Rattle.rule.specs.Form.{formOf}
-use Rattle.rule.specs.Refusals.{wrongKind, wrongA, malformed, notLower, usesIn, uses, ruleTable, ruleRefusal}
+use Rattle.rule.specs.Refusals.{wrongKind, wrongA, malformed, notLower, usesIn, uses, ruleTable, ruleRefusal, boundRow}
 use Rattle.loops.specs.Refusal.{loopRow, acceptedTable, acceptedRefusal}
 use Rattle.cover.specs.Covered.{covered}
 use Rattle.map.specs.Refusals.{noMap}
 use Rattle.call_map.specs.Refusals.{mapTable, mapCheckTable}
-use Rattle.call_check.specs.Check.{checkTable}
-use Rattle.claim_items.specs.SmallInputs.{charts, rules, maps, checks, asListed, mapAsListed, checkAsListed}
+use Rattle.judge.specs.Judge.{judgeTable}
+use Rattle.call_check.specs.Check.{checkRefusal}
+use Rattle.call_count.specs.Count.{countRefusal}
+use Rattle.claim_items.specs.SmallInputs.{charts, rules, maps, checks, counts}
+use Rattle.claim_items.specs.SmallInputs.{asListed, mapAsListed, judgeAsListed}
 
 pub charts-refused : every (asListed acceptedRefusal) charts ≡ true
 unfolding every charts acceptedTable chartTable loopRow arrowWords chartOf tabulate leads leftBy lowest first
@@ -32,8 +35,14 @@ unfolding
     leftBy lowest first
 maps-refused = refl
 
-pub checks-refused : every checkAsListed checks ≡ true
+pub checks-refused : every (judgeAsListed checkRefusal) checks ≡ true
 unfolding
-    every checks checkTable chartTable loopRow arrowWords chartOf tabulate leads leftBy lowest first ruleTable nodeWords
+    every checks judgeTable chartTable loopRow arrowWords chartOf tabulate leads leftBy lowest first ruleTable nodeWords
     formOf wrongKind wrongA malformed notLower usesIn uses sum
 checks-refused = refl
+
+pub counts-refused : every (judgeAsListed countRefusal) counts ≡ true
+unfolding
+    every counts judgeTable chartTable loopRow arrowWords chartOf tabulate leads leftBy lowest first ruleTable nodeWords
+    formOf wrongKind wrongA malformed notLower usesIn uses sum boundRow
+counts-refused = refl

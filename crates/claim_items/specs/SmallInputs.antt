@@ -1,5 +1,6 @@
 -- The column "Small input" of 01's table, and inputs for what 01 says beside it, as "lowest
--- state on one", "the same plus 40", "several joined don't count" and "'No end' contains every most".
+-- state on one", "the same plus 40", "several joined don't count" and "'No end' contains every most";
+-- and inputs for what 02, paper 2, says of refusals.
 use mathlib.Core.Bool.{Bool, _&&_}
 use mathlib.Core.List.{List, [], _∷_, _++_}
 use Prim.Native.Nat.{ℕ, _+_, _/_}
@@ -7,10 +8,9 @@ use lib.ListN.{length, take, replicate}
 use lib.Dec.{eqb}
 use Rattle.outcome.specs.declared.Outcome.{Outcome}
 use Rattle.call_map.specs.Refusals.{mapRefusal}
-use Rattle.call_check.specs.Check.{checkRefusal}
 use Rattle.append.specs.BigEndian.{wordBytes}
 use Rattle.claim_items.specs.Write.{arrow, chart, node, rule, map}
-use Rattle.claim_items.specs.Items.{short, trueUntil, A, atMost}
+use Rattle.claim_items.specs.Items.{short, trueUntil, E, A, atMost, atLeast}
 
 -- bytes, and the number and the place that are answered: 0 and 0 if they are accepted
 pub record Refused : Type 0 where
@@ -128,7 +128,7 @@ maps =
     []
 
 -- a chart, a rule, how many bytes and numbers are lent, and the number and the place that are answered
-pub record RefusedCheck : Type 0 where
+pub record RefusedJudge : Type 0 where
   pub chart : List ℕ
   pub rule : List ℕ
   pub marks : ℕ
@@ -136,24 +136,47 @@ pub record RefusedCheck : Type 0 where
   pub number : ℕ
   pub place : ℕ
 
-abbrev pub refusedCheck : ℕ → ℕ → List ℕ → List ℕ → ℕ → ℕ → RefusedCheck
-refusedCheck n p g r marks scratch =
+abbrev pub refusedJudge : ℕ → ℕ → List ℕ → List ℕ → ℕ → ℕ → RefusedJudge
+refusedJudge n p g r marks scratch =
     record { chart = g; rule = r; marks = marks; scratch = scratch; number = n; place = p }
 
-unfoldable pub checks : List RefusedCheck
+unfoldable pub checks : List RefusedJudge
 checks =
     -- 01's listing, with just enough room, is not refused
-    refusedCheck 0 0 short (trueUntil A 2 atMost 13) 9 12 ∷
+    refusedJudge 0 0 short (trueUntil A 2 atMost 13) 9 12 ∷
     -- n = k = 3, 8 bytes
-    refusedCheck 17 0 short (trueUntil A 2 atMost 13) 8 12 ∷
+    refusedJudge 17 0 short (trueUntil A 2 atMost 13) 8 12 ∷
     -- n = 3, 11 numbers
-    refusedCheck 18 0 short (trueUntil A 2 atMost 13) 9 11 ∷
+    refusedJudge 18 0 short (trueUntil A 2 atMost 13) 9 11 ∷
     -- the chart is tested before the rule, the rule before the marks, the marks before scratch, scratch before 19
-    refusedCheck 1 0 [] [] 0 0 ∷
-    refusedCheck 10 0 (shortWith (arrow 1 1 0 4)) [] 0 0 ∷
-    refusedCheck 17 0 (shortWith (arrow 1 1 0 4)) (trueUntil A 2 atMost 13) 0 0 ∷
-    refusedCheck 18 0 (shortWith (arrow 1 1 0 4)) (trueUntil A 2 atMost 13) 9 0 ∷
-    refusedCheck 19 1 (shortWith (arrow 1 1 0 4)) (trueUntil A 2 atMost 13) 9 12 ∷
+    refusedJudge 1 0 [] [] 0 0 ∷
+    refusedJudge 10 0 (shortWith (arrow 1 1 0 4)) [] 0 0 ∷
+    refusedJudge 17 0 (shortWith (arrow 1 1 0 4)) (trueUntil A 2 atMost 13) 0 0 ∷
+    refusedJudge 18 0 (shortWith (arrow 1 1 0 4)) (trueUntil A 2 atMost 13) 9 0 ∷
+    refusedJudge 19 1 (shortWith (arrow 1 1 0 4)) (trueUntil A 2 atMost 13) 9 12 ∷
+    []
+
+-- A(true until E(true until L2, at least b), at most c)
+abbrev pub twoBounds : ℕ → ℕ → List ℕ
+twoBounds b c =
+    rule 5 (node 0 0 0 0 0 ++ node 0 0 0 0 0 ++ node 1 0 2 0 0 ++ node E atLeast 1 2 b ++ node A atMost 0 3 c)
+
+unfoldable pub counts : List RefusedJudge
+counts =
+    -- c = 256, nothing lent: 63 before 17 and 18
+    refusedJudge 63 2 short (trueUntil A 2 atMost 256) 0 0 ∷
+    -- c = 255 is not 63, and with just enough room is not refused
+    refusedJudge 17 0 short (trueUntil A 2 atMost 255) 0 0 ∷
+    refusedJudge 0 0 short (trueUntil A 2 atMost 255) 9 768 ∷
+    -- both bounds above 255; the last node's alone; the inner node's alone
+    refusedJudge 63 3 short (twoBounds 256 65535) 15 768 ∷
+    refusedJudge 63 4 short (twoBounds 255 256) 15 768 ∷
+    refusedJudge 63 3 short (twoBounds 65535 255) 15 768 ∷
+    -- node 2 = A(0 until 0, at most 256): 16 before 63
+    refusedJudge 16 0 short (rule 3 (node 0 0 0 0 0 ++ node 0 0 0 0 0 ++ node A atMost 0 0 256)) 9 768 ∷
+    -- n = 3, 767 numbers, without an until; 768 are enough
+    refusedJudge 18 0 short (rule 1 (node 0 0 0 0 0)) 3 767 ∷
+    refusedJudge 0 0 short (rule 1 (node 0 0 0 0 0)) 3 768 ∷
     []
 
 -- ── As listed ──
@@ -170,7 +193,7 @@ asListed refusal x = is (refusal (x .bytes)) (x .number) (x .place)
 abbrev pub mapAsListed : RefusedMap → Bool
 mapAsListed x = is (mapRefusal (x .detail) (x .overview) (x .map)) (x .number) (x .place)
 
--- check's refusal is the one that is listed, where so many zeros are lent
-abbrev pub checkAsListed : RefusedCheck → Bool
-checkAsListed x =
-    is (checkRefusal (x .chart) (x .rule) (replicate (x .marks) 0) (replicate (x .scratch) 0)) (x .number) (x .place)
+-- the refusal of check, or of count, is the one that is listed, where so many zeros are lent
+abbrev pub judgeAsListed : (List ℕ → List ℕ → List ℕ → List ℕ → Outcome) → RefusedJudge → Bool
+judgeAsListed refusal x =
+    is (refusal (x .chart) (x .rule) (replicate (x .marks) 0) (replicate (x .scratch) 0)) (x .number) (x .place)

@@ -13,9 +13,10 @@ use Rattle.chart.proofs.WellFormed.{WellFormed, well-formed}
 use Rattle.rule.specs.Bytes.{nodeCount}
 use Rattle.rule.specs.Shape as rule-shape
 use Rattle.rule.proofs.Accepted.{accepted}
-use Rattle.call_check.specs.Check.{marksOf, Checked}
-use Rattle.call_check.proofs.Marks.{marks-length}
-use Rattle.call_check.proofs.Promise.{cleared-admitted, accepted-marks}
+use Rattle.call_check.specs.Check.{Checked}
+use Rattle.judge.specs.Judge.{marksOf}
+use Rattle.judge.proofs.Marks.{marks-length}
+use Rattle.judge.proofs.Promise.{cleared-admitted, accepted-marks}
 use Rattle.listing.specs.Text.{listing, refusedLine}
 use Rattle.listing.proofs.Same.{listing-same}
 use Rattle.desk_call.specs.Printed.{lentMarks, lentScratch, textOf, printed}

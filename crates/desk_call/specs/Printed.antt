@@ -7,7 +7,8 @@ use lib.Dec.{eqb}
 use Rattle.outcome.specs.declared.Outcome.{Outcome}
 use Rattle.chart.specs.Bytes.{stateCount}
 use Rattle.rule.specs.Bytes.{nodeCount}
-use Rattle.call_check.specs.Check.{checkRefusal, marksOf}
+use Rattle.call_check.specs.Check.{checkRefusal}
+use Rattle.judge.specs.Judge.{marksOf}
 use Rattle.listing.specs.Text.{listing, refusedLine}
 
 -- the marks table that is lent: 64 × 256 bytes, enough for any chart and rule

@@ -4,6 +4,7 @@ ghost use mathlib.Core.Path.{_≡_};
 ghost use Rattle.call_row.specs.Row.{placeOf};
 ghost use Rattle.call_map.specs.Refusals.{mapRefusal};
 ghost use Rattle.call_check.specs.Check.{Checked};
+ghost use Rattle.call_count.specs.Count.{Counted};
 ghost use Rattle.call_show.specs.Show.{Showed};
 ghost use Rattle.call_reader.specs.Reading.{handed};
 ghost use Rattle.coded.specs.Coded.{Coded, sizeOf, codedArrow};
@@ -25,6 +26,19 @@ pub extern "C" fn doilystrand_check(
         r (now (marks .exit)) (now (scratch .exit)) ⌝ }
 {
     call_check::check(chart, rule, marks, scratch)
+}
+
+#[no_mangle]
+pub extern "C" fn doilystrand_count(
+    chart: &[u8],
+    rule: &[u8],
+    marks: &mut [u8],
+    scratch: &mut [u32],
+) -> Outcome
+    ensures { λ r. ⌜ Counted (now (chart .entry)) (now (rule .entry)) (now (marks .entry)) (now (scratch .entry))
+        r (now (marks .exit)) (now (scratch .exit)) ⌝ }
+{
+    call_count::count(chart, rule, marks, scratch)
 }
 
 #[no_mangle]

@@ -4,11 +4,12 @@ use mathlib.Core.Bool.{not as neg}
 use Prim.Native.Nat.{ℕ}
 use lib.Dec.{ltb, leb}
 use Rattle.fill.specs.declared.Connective.{Connective}
-use Rattle.fill.specs.declared.Connective.the-variants.{Yes, Not, And, Or}
+use Rattle.fill.specs.declared.Connective.the-variants.{Yes, No, Not, And, Or}
 
 -- a mark from those of two operands
 abbrev pub combine : Connective → Bool → Bool → Bool
 combine Yes p q = true
+combine No p q = false
 combine Not p q = neg p
 combine And p q = p && q
 combine Or p q = p || q

@@ -14,6 +14,7 @@ ghost use Rattle.fill.specs.Written.{RowWritten};
 // A mark from the marks p and q of two operands.
 pub enum Connective {
     Yes,
+    No,
     Not,
     And,
     Or,
@@ -25,6 +26,7 @@ fn combined(connective: Connective, p: bool, q: bool) -> bool
 {
     match connective {
         Connective::Yes => true,
+        Connective::No => false,
         Connective::Not => !p,
         Connective::And => p & q,
         Connective::Or => p | q,

@@ -3,16 +3,13 @@
 // what is found by them is tested, and nothing is promised of hints and marks.
 ghost use mathlib.Core.Path.{_≡_};
 ghost use mathlib.Core.Bool.{Bool, true, cond};
-ghost use Prim.Native.Nat.{ℕ, _+_, _<_};
+ghost use Prim.Native.Nat.{ℕ, _<_};
 ghost use lib.ListN.{length};
 ghost use lib.Dec.{eqb};
-ghost use Rattle.words.specs.Word.{word};
-ghost use Rattle.chart.specs.Bytes.{arrowCount, arrowWords, chartOf};
-ghost use Rattle.chart.specs.Shape.{Small, Inside, Passed};
+ghost use Rattle.chart.specs.Bytes.{chartOf};
+ghost use Rattle.chart.specs.Shape.{Passed};
 ghost use Rattle.hints.specs.Circle.{Circles};
-ghost use Rattle.hints.specs.Read.{Low, Joined};
 ghost use Rattle.hints.specs.Values.{sided, valueOf, testedOf, Open};
-use chart::ArrowWords;
 
 // Values are below it, and a side is worth it.
 pub const RADIX: u32 = 262144;
@@ -81,43 +78,13 @@ pub fn turned(x: u32) -> u32
     x - x % HINT + x % SIDED + SIDED
 }
 
-// The state at a place, by its low byte.
-fn state_at(chart: &[u8], at: usize) -> usize
-    requires { ⌜ (at + 1 < length (now chart)) × (word (now chart) at < 256) ⌝ }
-    ensures { λ r. ⌜ r ≡ word (now (chart .entry)) at ⌝ }
-{
-    words::wide(chart[at + 1]) as usize
-}
-
-// Arrow i, its states by their low bytes.
-fn low_arrow(chart: &[u8], n: usize, i: usize) -> ArrowWords
-    requires { ⌜ Inside (now chart) n i × Low (arrowWords (now chart) i) ⌝ }
-    ensures { λ r. ⌜ (r ≡ arrowWords (now (chart .entry)) i) × Small r ⌝ }
-{
-    let at = 9 + 2 * n + 8 * i;
-    ArrowWords {
-        start: state_at(chart, at),
-        end: state_at(chart, at + 2),
-        fewest: words::be16(chart, at + 4),
-        most: words::be16(chart, at + 6),
-    }
-}
-
-// Arrow i of a chart that passed.
-pub fn arrow(chart: &[u8], n: usize, i: usize) -> ArrowWords
-    requires { ⌜ Passed (now chart) n (arrowCount (now chart)) × (i < arrowCount (now chart)) ⌝ }
-    ensures { λ r. ⌜ (r ≡ arrowWords (now (chart .entry)) i) × Joined n r ⌝ }
-{
-    low_arrow(chart, n, i)
-}
-
 // Each state's hint becomes the last arrow that is listed from it.
 pub fn start(chart: &[u8], n: usize, m: usize, numbers: &mut [u32])
     requires { ⌜ Passed (now chart) n m × (length (now numbers) ≡ n) ⌝ }
 {
     let mut i = 0;
     while i < m {
-        let a = arrow(chart, n, i);
+        let a = arrows::arrow(chart, n, i);
         let s = a.start;
         numbers[s] = hinted(0, 0, i);
         i += 1;
@@ -149,7 +116,7 @@ pub fn circles(chart: &[u8], n: usize, m: usize, most: usize, numbers: &[u32], r
         if m <= i {
             return false;
         }
-        let a = arrow(chart, n, i);
+        let a = arrows::arrow(chart, n, i);
         if a.start != at {
             return false;
         }

@@ -116,7 +116,7 @@ fn clear_each(chart: &[u8], n: usize, m: usize, good: &[u8], numbers: &mut [u32]
 {
     let mut i = 0;
     while i < m {
-        let a = hints::arrow(chart, n, i);
+        let a = arrows::arrow(chart, n, i);
         let start = a.start;
         let end = a.end;
         let x = numbers[start];

@@ -1,19 +1,36 @@
 -- When rows of marks are right.
 use mathlib.Core.Path.{_≡_}
+use mathlib.Core.Bool.{Bool, true, cond}
 use mathlib.Core.List.{List}
 use Prim.Native.Nat.{ℕ, _+_, _*_, _≤_, _<_}
-use lib.ListN.{getD}
+use lib.ListN.{length, getD}
+use Rattle.tctl.specs.Accepted.{Accepted}
 use Rattle.model.specs.Decide.{holds}
 use Rattle.model.specs.Marks.{bit}
 use Rattle.chart.specs.Bytes.{chartOf}
+use Rattle.chart.specs.Shape.{Passed}
 use Rattle.rule.specs.Bytes.{nodeCount, nodeWords}
 use Rattle.rule.specs.Refusals.{ruleRefusal}
 use Rattle.rule.specs.Formula.{formulaAt}
 
--- node t of a rule that passes checks 10 to 16
-pub record AcceptedNode (rule : List ℕ) (t : ℕ) : Type 0 where
+-- how many numbers are worked on: one for each state, or, where minutes are counted, one for each minute from 0 to 255
+-- and each state
+abbrev pub numbersFor : Bool → ℕ → ℕ
+numbersFor counting n = cond counting (256 * n) n
+
+-- A chart that passes checks 1 to 9, a table of marks that holds row t, and numbers to work on. Minutes are counted on
+-- charts that are accepted.
+pub record Workable (counting : Bool) (chart : List ℕ) (n m t : ℕ) (marks numbers : List ℕ) : Type 0 where
+  pub passed : Passed chart n m
+  pub table : t * n + n ≤ length marks
+  pub size : length numbers ≡ numbersFor counting n
+  pub accepted : counting ≡ true → Accepted (chartOf chart)
+
+-- node t of a rule that passes checks 10 to 16, and 63 where minutes are counted
+pub record AcceptedNode (counting : Bool) (rule : List ℕ) (t : ℕ) : Type 0 where
   pub unrefused : ruleRefusal rule .number ≡ 0
   pub inside : t < nodeCount rule
+  pub short : counting ≡ true → (u : ℕ) → u < nodeCount rule → nodeWords rule u .c ≤ 255
 
 -- row u holds the marks of node u
 abbrev pub Right : List ℕ → ℕ → List ℕ → ℕ → List ℕ → Type 0

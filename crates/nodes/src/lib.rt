@@ -1,17 +1,30 @@
-// Settling one node: its row of marks from the rows of its operands.
-ghost use Prim.Native.Nat.{_<_};
+// Settling one node: its row of marks from the rows of its operands; an until by the first engine, or minute by minute.
+ghost use mathlib.Core.Path.{_≡_};
+ghost use Prim.Native.Nat.{_≤_, _<_};
 ghost use Rattle.model.specs.Decide.{holds};
 ghost use Rattle.chart.specs.Bytes.{chartOf};
 ghost use Rattle.rule.specs.Formula.{boundOf, formulaAt};
 ghost use Rattle.fill.specs.Written.{RowWritten};
-ghost use Rattle.until_start.specs.Lent.{Lent, OperandsBelow};
-ghost use Rattle.until_start.specs.FromOperands.{FromOperands};
-ghost use Rattle.nodes.specs.Right.{AcceptedNode, OperandsRight};
-ghost use Rattle.nodes.specs.Until.{untilMet};
+ghost use Rattle.until_start.specs.Lent.{Lent};
+ghost use Rattle.operands.specs.FromOperands.{OperandsBelow};
+ghost use Rattle.operands.specs.FromOperands.{FromOperands};
+ghost use Rattle.nodes.specs.Right.{numbersFor, Workable, AcceptedNode, OperandsRight};
+ghost use Rattle.nodes.specs.Until.{untilMet, UntilRead};
 use fill::Connective;
 use rule::NodeWords;
 
-// An until, by its operation, its kind of bound and c.
+// How many numbers are worked on for n states.
+pub fn numbers_for(counting: bool, n: usize) -> usize
+    requires { ⌜ n ≤ 256 ⌝ }
+    ensures { λ r. ⌜ r ≡ numbersFor counting n ⌝ }
+{
+    if counting {
+        return 256 * n;
+    }
+    n
+}
+
+// An until of the first engine, by its operation, its kind of bound and c.
 fn until(
     chart: &[u8],
     n: usize,
@@ -44,8 +57,32 @@ fn until(
     until_twice::all_at_least(chart, n, m, t, node, marks, numbers);
 }
 
+// An until, minute by minute or by the first engine.
+fn settle_until(
+    counting: bool,
+    chart: &[u8],
+    n: usize,
+    m: usize,
+    t: usize,
+    node: NodeWords,
+    marks: &mut [u8],
+    numbers: &mut [u32],
+)
+    requires { ⌜ Workable counting (now chart) n m t (now marks) (now numbers) × UntilRead counting t node ⌝ }
+    ensures { λ _. ⌜ FromOperands (untilMet (node .operation) (boundOf (node .kind) (node .c)))
+        (now (chart .entry)) n t node (now (marks .entry)) (now (marks .exit)) ⌝ }
+{
+    if counting {
+        let all = node.operation == rule::ALL_UNTIL;
+        until_minutes::until(all, chart, n, m, t, node, marks, numbers);
+        return;
+    }
+    until(chart, n, m, t, node, marks, numbers);
+}
+
 // Node t's own row, where those of its operands are right.
 pub fn settle_node(
+    counting: bool,
     chart: &[u8],
     n: usize,
     m: usize,
@@ -54,7 +91,7 @@ pub fn settle_node(
     marks: &mut [u8],
     numbers: &mut [u32],
 )
-    requires { ⌜ Lent (now chart) n m t (now marks) (now numbers) × AcceptedNode (now rule) t ⌝ }
+    requires { ⌜ Workable counting (now chart) n m t (now marks) (now numbers) × AcceptedNode counting (now rule) t ⌝ }
     requires { ⌜ OperandsRight (now chart) n (now rule) t (now marks) ⌝ }
     ensures { λ _. ⌜ RowWritten n t (holds (chartOf (now (chart .entry))) (formulaAt (now (rule .entry)) t))
         (now (marks .entry)) (now (marks .exit)) ⌝ }
@@ -80,5 +117,5 @@ pub fn settle_node(
         fill::fill(Connective::Or, n, t, node.a, node.b, marks);
         return;
     }
-    until(chart, n, m, t, node, marks, numbers);
+    settle_until(counting, chart, n, m, t, node, marks, numbers);
 }

@@ -1,4 +1,4 @@
--- The greatest number that a table can answer.
+-- What the numbers that a table can answer have in common: its rows' numbers have it, and 0.
 use mathlib.Core.Path.{_≡_}
 use mathlib.Core.Bool.{Bool, true, _&&_}
 use mathlib.Core.List.{List, [], _∷_}
@@ -6,17 +6,21 @@ use mathlib.Core.Option.{none, some}
 use Prim.Native.Nat.{ℕ, _≤_}
 use native.Mathlib.Omega.{arith}
 use lib.Dec.{leb}
-use borrow.Author.Tests.{leb-true}
+use borrow.Author.Tests.{leb-true, le-leb}
 use Rattle.base.proofs.Truth.{and-iff}
 use Rattle.outcome.specs.Refusal.{Row, refuse, first}
 
--- every row's number is at most k
-abbrev pub up-to : ℕ → List Row → Bool
-up-to k [] = true
-up-to k (refuse n p ∷ rows) = leb n k && up-to k rows
+-- the test says yes of every row's number
+abbrev pub each : (ℕ → Bool) → List Row → Bool
+each good [] = true
+each good (refuse n p ∷ rows) = good n && each good rows
 
-pub number-le : (k : ℕ) (rows : List Row) → up-to k rows ≡ true → first rows .number ≤ k
+pub number-each :
+    (good : ℕ → Bool) (rows : List Row) → good 0 ≡ true → each good rows ≡ true → good (first rows .number) ≡ true
 unfolding first
-number-le k [] e = omega arith
-number-le k (refuse n none ∷ rows) e = number-le k rows (and-iff (leb n k) (up-to k rows) .0 e .1)
-number-le k (refuse n (some p) ∷ rows) e = leb-true n k (and-iff (leb n k) (up-to k rows) .0 e .0)
+number-each good [] z e = z
+number-each good (refuse n none ∷ rows) z e = number-each good rows z (and-iff (good n) (each good rows) .0 e .1)
+number-each good (refuse n (some p) ∷ rows) z e = and-iff (good n) (each good rows) .0 e .0
+
+pub number-le : (k : ℕ) (rows : List Row) → each (λ n. leb n k) rows ≡ true → first rows .number ≤ k
+number-le k rows e = leb-true (first rows .number) k (number-each (λ n. leb n k) rows (le-leb 0 k (omega arith)) e)

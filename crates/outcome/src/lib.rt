@@ -77,5 +77,7 @@ pub const TABLE_SCRATCH: u32 = 61;
 
 pub const NO_RUN_FITS: u32 = 62;
 
+pub const LONG_BOUND: u32 = 63;
+
 // What is added to a chart's number if it is the overview's.
 pub const OVERVIEW: u32 = 40;

@@ -1,27 +1,30 @@
-// The room that is lent to check: rows 17 and 18.
+// The room that is lent to a call: rows 17 and 18.
 ghost use mathlib.Core.Path.{_≡_};
 ghost use Prim.Native.Nat.{_≤_};
 ghost use Rattle.outcome.specs.Refusal.{first};
-ghost use Rattle.room.specs.Room.{scratchSize, roomTable};
+ghost use Rattle.room.specs.Room.{sizeFor, roomTable};
 use outcome::Outcome;
 
-// How many numbers are asked for, and cleared, for n states.
-pub fn scratch_size(n: usize) -> usize
+// How many numbers are asked for, and cleared, for n states: of a call that counts minutes, or of check.
+pub fn scratch_size(counting: bool, n: usize) -> usize
     requires { ⌜ n ≤ 256 ⌝ }
-    ensures { λ r. ⌜ r ≡ scratchSize n ⌝ }
+    ensures { λ r. ⌜ r ≡ sizeFor counting n ⌝ }
 {
+    if counting {
+        return 256 * n;
+    }
     4 * n
 }
 
-// Rows 17 and 18.
-pub fn room_refusal(n: usize, k: usize, marks: &[u8], scratch: &[u32]) -> Outcome
+// Rows 17 and 18, for a call that asks for so many numbers.
+pub fn room_refusal(n: usize, k: usize, size: usize, marks: &[u8], scratch: &[u32]) -> Outcome
     requires { ⌜ (n ≤ 256) × (k ≤ 64) ⌝ }
-    ensures { λ r. ⌜ r ≡ first (roomTable n k (now (marks .entry)) (now (scratch .entry))) ⌝ }
+    ensures { λ r. ⌜ r ≡ first (roomTable n k size (now (marks .entry)) (now (scratch .entry))) ⌝ }
 {
     if marks.len() < k * n {
         return outcome::refused(outcome::MARKS_TABLE, 0);
     }
-    if scratch.len() < scratch_size(n) {
+    if scratch.len() < size {
         return outcome::refused(outcome::SCRATCH, 0);
     }
     outcome::accepted()

@@ -1,11 +1,11 @@
-// Refusals 10 to 16 of a rule.
+// Refusals 10 to 16 of a rule, and 63.
 ghost use mathlib.Core.Path.{_≡_};
 ghost use mathlib.Core.List.{[], _∷_};
 ghost use Prim.Native.Nat.{_≤_};
 ghost use lib.ListN.{length};
 ghost use Rattle.outcome.specs.Refusal.{first, rows};
 ghost use Rattle.rule.specs.Shape.{Shape};
-ghost use Rattle.rule.specs.Refusals.{ruleTable, ruleRefusal, wrongA, malformed, notLower};
+ghost use Rattle.rule.specs.Refusals.{ruleTable, ruleRefusal, wrongA, malformed, notLower, boundRow};
 ghost use Rattle.rule.specs.Rows.{offends, nodeRow, nodeRows};
 use outcome::Outcome;
 use rule::NodeWords;
@@ -80,17 +80,23 @@ fn is_not_lower(w: NodeWords, t: usize) -> bool
     t <= w.b
 }
 
-// The fault of row 14, or that of row 15, as the number says.
+// The longest bound whose minutes are counted.
+const LONGEST: u32 = 255;
+
+// The fault of row 14, of row 15, or of row 63, as the number says.
 fn offending(row: u32, w: NodeWords, t: usize) -> bool
     ensures { λ r. ⌜ r ≡ offends row t w ⌝ }
 {
     if row == outcome::MALFORMED {
         return is_malformed(w);
     }
-    is_not_lower(w, t)
+    if row == outcome::NOT_LOWER {
+        return is_not_lower(w, t);
+    }
+    LONGEST < w.c
 }
 
-// Row 14, or row 15: the lowest node with its fault.
+// Row 14, 15 or 63: the lowest node with its fault.
 fn node_refusal(row: u32, rule: &[u8], k: usize) -> Outcome
     requires { ⌜ Shape (now rule) k ⌝ }
     ensures { λ r. ⌜ r ≡ first (nodeRow row (now (rule .entry)) k ∷ []) ⌝ }
@@ -136,4 +142,13 @@ pub fn rule_refusal(rule: &[u8]) -> Outcome
     }
     let k = rule::node_count(rule);
     body_refusal(rule, k)
+}
+
+// Row 63, of a rule that passes rows 10 to 16.
+pub fn bound_refusal(rule: &[u8]) -> Outcome
+    requires { ⌜ ruleRefusal (now rule) .number ≡ 0 ⌝ }
+    ensures { λ r. ⌜ r ≡ first (boundRow (now (rule .entry)) ∷ []) ⌝ }
+{
+    let k = rule::node_count(rule);
+    node_refusal(outcome::LONG_BOUND, rule, k)
 }

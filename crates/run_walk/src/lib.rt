@@ -70,7 +70,7 @@ fn tight_arrow(
     let number = table[at + n + s];
     let mut i = firsts[s] as usize;
     while i < m {
-        let a = hints::arrow(chart, n, i);
+        let a = arrows::arrow(chart, n, i);
         let end = a.end;
         let sum = table[at + end] + step_numbers::weight(measure, a);
         if step_numbers::settled(measure, sum) == number {
@@ -105,7 +105,7 @@ fn follow(
     while 0 < left {
         left -= 1;
         let i = tight_arrow(measure, chart, n, m, firsts, nexts, left * n, state, table);
-        let a = hints::arrow(chart, n, i);
+        let a = arrows::arrow(chart, n, i);
         end = put_position(state, pick(measure, a), end, out);
         state = a.end;
     }

@@ -1,5 +1,6 @@
 -- Node t was read: what the calls for its operands and for its own row ask, and what they leave.
 use mathlib.Core.Path.{_≡_, ap, subst, _∙_}
+use mathlib.Core.Bool.{Bool}
 use mathlib.Core.List.{List}
 use Prim.Native.Nat.{ℕ, _≤_, _<_}
 use native.Mathlib.Omega.{arith}
@@ -13,18 +14,24 @@ use Rattle.rule.specs.declared.NodeWords.{NodeWords}
 use Rattle.rule.proofs.Accepted.{AcceptedRule, accepted}
 use Rattle.rule.proofs.Read as read
 use Rattle.fill.specs.Written.{RowWritten}
-use Rattle.until_start.specs.Lent.{Lent}
-use Rattle.nodes.specs.Right.{AcceptedNode, OperandsRight}
+use Rattle.nodes.specs.Right.{Workable, AcceptedNode, OperandsRight}
 use Rattle.settle.specs.Settled.{Settled}
 use Rattle.settle.proofs.Tree.{Below, below-none, below-left, below-both, operands, settled}
 
-pub record Begun (chart : List ℕ) (n m : ℕ) (rule : List ℕ) (t : ℕ) (w : NodeWords) (marks numbers : List ℕ) :
-    Type 0 where
-  pub lent : Lent chart n m t marks numbers
+pub record Begun
+    (counting : Bool)
+    (chart : List ℕ)
+    (n m : ℕ)
+    (rule : List ℕ)
+    (t : ℕ)
+    (w : NodeWords)
+    (marks numbers : List ℕ) : Type 0 where
+  pub lent : Workable counting chart n m t marks numbers
+  pub asked : AcceptedNode counting rule t
   pub node : read.ReadNode rule t w
 
-module _ {chart : List ℕ} {n m : ℕ} {rule : List ℕ} {t : ℕ} {w : NodeWords} {marks numbers : List ℕ}
-    (b : Begun chart n m rule t w marks numbers) where
+module _ {counting : Bool} {chart : List ℕ} {n m : ℕ} {rule : List ℕ} {t : ℕ} {w : NodeWords} {marks numbers : List ℕ}
+    (b : Begun counting chart n m rule t w marks numbers) where
   passed : AcceptedRule rule
   passed = accepted rule (b .node .accepted)
 
@@ -34,14 +41,15 @@ module _ {chart : List ℕ} {n m : ℕ} {rule : List ℕ} {t : ℕ} {w : NodeWor
   -- a lower node, on marks and numbers as long as those lent
   pub operand-asks :
       {u : ℕ} {mid vs : List ℕ} → u < t → length mid ≡ length marks → length vs ≡ length numbers →
-      Lent chart n m u mid vs × AcceptedNode rule u
+      Workable counting chart n m u mid vs × AcceptedNode counting rule u
   operand-asks h e f = (
     record {
       passed = b .lent .passed;
       table = omega (arith, row-below n h, b .lent .table);
       size = f ∙ b .lent .size;
+      accepted = b .lent .accepted;
     },
-    record { unrefused = b .node .accepted; inside = omega (arith, b .node .low) },
+    record { unrefused = b .node .accepted; inside = omega (arith, b .node .low); short = b .asked .short },
   )
 
   -- ── The operands are settled: none, one or two ──
@@ -68,15 +76,16 @@ module _ {chart : List ℕ} {n m : ℕ} {rule : List ℕ} {t : ℕ} {w : NodeWor
   module _ {mid : List ℕ} (x : Below chart n rule t marks mid) where
     pub own-asks :
         {vs : List ℕ} → length vs ≡ length numbers →
-        (Lent chart n m t mid vs × AcceptedNode rule t) × OperandsRight chart n rule t mid
+        (Workable counting chart n m t mid vs × AcceptedNode counting rule t) × OperandsRight chart n rule t mid
     own-asks f = (
       (
         record {
           passed = b .lent .passed;
           table = omega (arith, b .lent .table, x .size);
           size = f ∙ b .lent .size;
+          accepted = b .lent .accepted;
         },
-        record { unrefused = b .node .accepted; inside = b .node .low },
+        b .asked,
       ),
       operands passed (b .node .low) x,
     )

@@ -1,9 +1,10 @@
-// Settling a node of a rule's tree: its operands first, whose numbers are lower, then its own row of marks.
-ghost use Rattle.until_start.specs.Lent.{Lent};
-ghost use Rattle.nodes.specs.Right.{AcceptedNode};
+// Settling a node of a rule's tree: its operands first, whose numbers are lower, then its own row of marks; untils by the
+// first engine, or minute by minute.
+ghost use Rattle.nodes.specs.Right.{Workable, AcceptedNode};
 ghost use Rattle.settle.specs.Settled.{Settled};
 
 pub fn settle(
+    counting: bool,
     chart: &[u8],
     n: usize,
     m: usize,
@@ -12,19 +13,19 @@ pub fn settle(
     marks: &mut [u8],
     numbers: &mut [u32],
 )
-    requires { ⌜ Lent (now chart) n m t (now marks) (now numbers) × AcceptedNode (now rule) t ⌝ }
+    requires { ⌜ Workable counting (now chart) n m t (now marks) (now numbers) × AcceptedNode counting (now rule) t ⌝ }
     ensures { λ _. ⌜ Settled (now (chart .entry)) n (now (rule .entry)) t (now (marks .entry)) (now (marks .exit)) ⌝ }
 {
     let node = rule::node_at(rule, t);
     if node.operation < rule::NOT {
-        nodes::settle_node(chart, n, m, rule, t, marks, numbers);
+        nodes::settle_node(counting, chart, n, m, rule, t, marks, numbers);
         return;
     }
-    settle(chart, n, m, rule, node.a, marks, numbers);
+    settle(counting, chart, n, m, rule, node.a, marks, numbers);
     if node.operation == rule::NOT {
-        nodes::settle_node(chart, n, m, rule, t, marks, numbers);
+        nodes::settle_node(counting, chart, n, m, rule, t, marks, numbers);
         return;
     }
-    settle(chart, n, m, rule, node.b, marks, numbers);
-    nodes::settle_node(chart, n, m, rule, t, marks, numbers);
+    settle(counting, chart, n, m, rule, node.b, marks, numbers);
+    nodes::settle_node(counting, chart, n, m, rule, t, marks, numbers);
 }

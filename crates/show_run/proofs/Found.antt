@@ -18,7 +18,7 @@ use Rattle.append.proofs.Append.{at-front, appended-text}
 use Rattle.outcome.proofs.Lowest.{some-lowest}
 use Rattle.chart.specs.Bytes.{chartOf}
 use Rattle.rule.specs.declared.NodeWords.{NodeWords}
-use Rattle.until_start.proofs.Rows.{lent, lent-length}
+use Rattle.operands.proofs.Rows.{lent, lent-length}
 use Rattle.shown.specs.Steps.{Quest, byStep, walk, enough, fewestSteps}
 use Rattle.shown.proofs.Table.{walk-length}
 use Rattle.step_numbers.specs.declared.Target.{Target}

@@ -24,7 +24,7 @@ fn fill_weights(measure: Measure, chart: &[u8], n: usize, m: usize, weights: &mu
 {
     let mut i = 0;
     while i < m {
-        let a = hints::arrow(chart, n, i);
+        let a = arrows::arrow(chart, n, i);
         weights[i] = step_numbers::weight(measure, a);
         i += 1;
     }
@@ -63,7 +63,7 @@ fn relax(chart: &[u8], n: usize, i: usize, weights: &[u32], at: usize, table: &m
     requires { ⌜ Light (now chart) (now weights) × RowLow n at (now table) ⌝ }
     ensures { λ _. ⌜ Relaxed (now (chart .entry)) n i at (now (weights .entry)) (now (table .entry)) (now (table .exit)) ⌝ }
 {
-    let a = hints::arrow(chart, n, i);
+    let a = arrows::arrow(chart, n, i);
     let from = at + a.end;
     let to = at + n + a.start;
     let sum = table[from] + weights[i];

@@ -48,7 +48,7 @@ module _ {G : Chart} (dr : Drawn G) (live : Lively G) {P Q : ℕ → Type 0} whe
   late-unmet l (fails p) = fails-unmet 0 l p
   late-unmet l (lasts p h) = lasts-unmet 0 l p h
 
-late-ahead :
+pub late-ahead :
     {G : Chart} {P Q : ℕ → Type 0} {m k s d t : ℕ} → Waits P Q s → Step G s d t → Late G P Q m (k + d) t →
     Late G P Q m k s
 late-ahead g x (fails p) = fails (step g x p)

@@ -17,7 +17,7 @@ use Rattle.ways.specs.declared.Way.the-variants.{Lower, Raise}
 use Rattle.ways.specs.Way.{top, leftOver}
 use Rattle.initial.specs.declared.Initial.the-variants.{Reach, Goal}
 use Rattle.until_start.specs.Risen.{Risen}
-use Rattle.until_start.specs.FromOperands.{someMeets, allMeet, unhinderedUpTo}
+use Rattle.until_start.specs.Meets.{someMeets, allMeet, unhinderedUpTo}
 use Rattle.until_start.proofs.Waits.{row-answers, up-to, one-more, left-at, at-most-left, left-tabulated, left-reach, plain-answers}
 
 -- ── E(p until q) ──

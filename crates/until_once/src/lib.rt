@@ -1,8 +1,10 @@
 // E(a until b) with either bound, which one run of the engine settles.
 ghost use Prim.Native.Nat.{_<_};
 ghost use Rattle.tctl.specs.Formula.{atMost, atLeast};
-ghost use Rattle.until_start.specs.Lent.{Lent, OperandsBelow};
-ghost use Rattle.until_start.specs.FromOperands.{FromOperands, someMeets};
+ghost use Rattle.until_start.specs.Lent.{Lent};
+ghost use Rattle.operands.specs.FromOperands.{OperandsBelow};
+ghost use Rattle.until_start.specs.Meets.{someMeets};
+ghost use Rattle.operands.specs.FromOperands.{FromOperands};
 use initial::Initial;
 use rule::NodeWords;
 use ways::Climb;

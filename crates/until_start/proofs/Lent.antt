@@ -13,8 +13,9 @@ use Rattle.chart.proofs.Reading.{drawn, has-states}
 use Rattle.rule.specs.declared.NodeWords.{NodeWords}
 use Rattle.ways.specs.declared.Way.{Way}
 use Rattle.engine.specs.AsModel.{Prepared}
-use Rattle.until_start.specs.Lent.{Lent, OperandsBelow, Able}
-use Rattle.until_start.proofs.Rows.{lent, lent-length}
+use Rattle.until_start.specs.Lent.{Lent, Able}
+use Rattle.operands.specs.FromOperands.{OperandsBelow}
+use Rattle.operands.proofs.Rows.{lent, lent-length}
 
 -- the arrows join states, and so they do if they weigh ticks
 pub joins :

@@ -23,7 +23,7 @@ use Rattle.ways.specs.declared.Way.the-variants.{Raise}
 use Rattle.ways.specs.Way.{top, leftOver}
 use Rattle.initial.specs.declared.Initial.the-variants.{Fail}
 use Rattle.until_start.specs.Risen.{Risen}
-use Rattle.until_start.specs.FromOperands.{unhinderedUpTo, allMeetPlain}
+use Rattle.until_start.specs.Meets.{unhinderedUpTo, allMeetPlain}
 
 -- a row that is tabulated from the numbers ts answers as the same numbers ws do
 pub row-answers :

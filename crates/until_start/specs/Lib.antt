@@ -1,3 +1,3 @@
 pub mod Lent
 pub mod Risen
-pub mod FromOperands
+pub mod Meets

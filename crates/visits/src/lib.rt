@@ -15,7 +15,7 @@ pub fn raises(way: Way, chart: &[u8], n: usize, i: usize, numbers: &[u32]) -> bo
     ensures { λ r. ⌜ (r ≡ false → (go : ℕ → Bool) → Ready way go (now (numbers .entry)) →
         Held way go (arrowAt (now (chart .entry)) i) (values (now (numbers .entry))) (values (now (numbers .entry)))) ⌝ }
 {
-    let a = hints::arrow(chart, n, i);
+    let a = arrows::arrow(chart, n, i);
     let s = a.start;
     let e = a.end;
     ways::beats(way, a, hints::value(numbers[e]), hints::tested(numbers[s]))
@@ -27,7 +27,7 @@ fn raise(way: Way, chart: &[u8], n: usize, i: usize, numbers: &mut [u32]) -> boo
     ensures { λ r. ⌜ Visits way (now (chart .entry)) (arrowCount (now (chart .entry))) i r
         (now (numbers .entry)) (now (numbers .exit)) ⌝ }
 {
-    let a = hints::arrow(chart, n, i);
+    let a = arrows::arrow(chart, n, i);
     let s = a.start;
     let e = a.end;
     let v = ways::offered(way, a, hints::value(numbers[e]));
@@ -57,7 +57,7 @@ pub fn renew(way: Way, chart: &[u8], n: usize, m: usize, i: usize, numbers: &mut
     requires { ⌜ Given way (now chart) n m (now numbers) × (i < m) ⌝ }
     ensures { λ r. ⌜ Visits way (now (chart .entry)) m i r (now (numbers .entry)) (now (numbers .exit)) ⌝ }
 {
-    let a = hints::arrow(chart, n, i);
+    let a = arrows::arrow(chart, n, i);
     let s = a.start;
     let e = a.end;
     let v = ways::offered(way, a, hints::value(numbers[e]));

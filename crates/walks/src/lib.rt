@@ -72,7 +72,7 @@ fn trail(
         }
         numbers[at] = hints::turned(x);
         row[k] = at as u8;
-        let a = hints::arrow(chart, n, i);
+        let a = arrows::arrow(chart, n, i);
         at = a.end;
         k += 1;
     }

@@ -20,7 +20,7 @@ struct Counts {
     long: u64,
 }
 
-const CASES: Counts = Counts { usual: 400_000, long: 5_000_000 };
+const CASES: Counts = Counts { usual: 430_000, long: 5_000_000 };
 const PAIRS: Counts = Counts { usual: 300, long: 10_000 };
 
 #[derive(Debug, PartialEq, Eq)]
@@ -97,7 +97,7 @@ mod tests {
 
     #[test]
     fn the_library() {
-        assert_eq!(task(""), Ok(Task::Run { seed: SEED, count: 400_000 }));
+        assert_eq!(task(""), Ok(Task::Run { seed: SEED, count: 430_000 }));
         assert_eq!(task("--long"), Ok(Task::Run { seed: SEED, count: 5_000_000 }));
         assert_eq!(task("--long 1,000 --seed 3"), Ok(Task::Run { seed: 3, count: 1_000 }));
         assert_eq!(task("--case 7 --seed 3"), Ok(Task::One(Which::Random { seed: 3, number: 7 })));

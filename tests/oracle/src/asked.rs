@@ -1,6 +1,7 @@
 //! What a run can be asked for: a marked E-until, or an unmarked A-until bounded by "at most", at a state.
 
 use crate::chart::state_count;
+use crate::check::BY_PAIRS;
 use crate::leaving::Leaving;
 use crate::refusals::{first_met, Case};
 use crate::rule::{node_count, nodes, AT_MOST, A_UNTIL, E_UNTIL};
@@ -44,7 +45,7 @@ pub fn with_asked<T>(
         return None;
     }
     let mut marks = vec![0; node_count(rule) * state_count(chart)];
-    settle_all(chart, rule, &mut marks);
+    settle_all(chart, rule, BY_PAIRS, &mut marks);
     let leaving = Leaving::of(chart);
     Asked::of(&leaving, rule, &marks, node, state).map(|asked| answer(&asked))
 }

@@ -1,8 +1,9 @@
-//! What the desk program prints.
+//! What the desk program prints, and the same by the other way to the marks.
 
 use crate::answers::Outcome;
 use crate::chart::state_count;
 use crate::check::check;
+use crate::count::count;
 use crate::rule::node_count;
 
 /// One byte more than the longest accepted chart, and the same for a rule.
@@ -13,10 +14,21 @@ pub fn refused_line(outcome: Outcome) -> String {
     format!("refused {} at {}\n", outcome.number, outcome.place)
 }
 
+/// A way to the marks, with chart, rule, marks and scratch.
+type Call = fn(&[u8], &[u8], &mut [u8], &mut [u32]) -> Outcome;
+
 /// The whole output for these bytes.
 pub fn listing(chart: &[u8], rule: &[u8]) -> String {
+    listing_by(check, &mut [0; 4 * 256], chart, rule)
+}
+
+pub fn counted_listing(chart: &[u8], rule: &[u8]) -> String {
+    listing_by(count, &mut vec![0; 256 * 256], chart, rule)
+}
+
+fn listing_by(call: Call, scratch: &mut [u32], chart: &[u8], rule: &[u8]) -> String {
     let mut marks = [2u8; 64 * 256];
-    let outcome = check(chart, rule, &mut marks, &mut [0; 4 * 256]);
+    let outcome = call(chart, rule, &mut marks, scratch);
     if outcome.refused() {
         return refused_line(outcome);
     }

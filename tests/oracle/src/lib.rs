@@ -1,7 +1,8 @@
-//! Check, shown run, kind of rule, map check, row and chart reader, written from the customer's papers alone.
+//! Check, count, shown run, kind of rule, map check, row and chart reader, written from the customer's papers alone.
 //!
-//! Untils are settled by fixpoints over pairs of a state and a minute, and runs are searched for over the same pairs;
-//! nothing here measures a path. Where the papers leave a result free, a judge says whether somebody's is right.
+//! Check settles untils by fixpoints over pairs of a state and a minute, and runs are searched for over the same pairs;
+//! count lists states for each number of minutes left. Nothing here measures a path. Where the papers leave a result
+//! free, a judge says whether somebody's is right.
 
 mod answers;
 mod asked;
@@ -10,16 +11,20 @@ mod calls;
 mod chart;
 mod chart_rows;
 mod check;
+mod count;
 mod desk;
+mod fill;
 mod judge_run;
 mod judge_show;
 mod judge_why;
 mod kind;
 mod leaving;
+mod listed;
 mod loops;
 mod map_check;
 mod map_rows;
 mod members;
+mod minutes;
 mod position;
 mod reader;
 mod refusals;
@@ -29,14 +34,17 @@ mod rule_rows;
 mod search;
 mod settle;
 mod show;
+mod unbounded;
 mod until;
 mod unvisited;
+mod verdict;
 mod why;
 
 pub use answers::{ArrowWords, Choice, Kind, KindAnswer, Outcome, Written};
 pub use calls::{calls_text, ASK_READ};
 pub use check::check;
-pub use desk::{listing, refused_line, CHART_READ, RULE_READ};
+pub use count::count;
+pub use desk::{counted_listing, listing, refused_line, CHART_READ, RULE_READ};
 pub use judge_run::judge_run;
 pub use judge_show::{judge_show, ShowCall};
 pub use judge_why::judge_why;

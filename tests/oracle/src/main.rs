@@ -1,14 +1,14 @@
 //! The calls from a command line.
 
-use oracle::{calls_text, judge_why, kind_of_rule, listing, map_check, refused_line, why_text, Kind};
-use oracle::{ASK_READ, CHART_READ, RULE_READ};
+use oracle::{calls_text, counted_listing, judge_why, kind_of_rule, listing, map_check, refused_line, why_text};
+use oracle::{Kind, ASK_READ, CHART_READ, RULE_READ};
 use std::ffi::{OsStr, OsString};
 use std::fs::File;
 use std::io::{Read, Write};
 use std::process::ExitCode;
 
 const USAGE: &str = "usage: oracle check CHART RULE | oracle kind RULE | oracle map DETAIL OVERVIEW MAP
-       oracle calls CHART RULE ASK | oracle why CHART RULE NODE STATE
+       oracle count CHART RULE | oracle calls CHART RULE ASK | oracle why CHART RULE NODE STATE
        oracle judge-why CHART RULE NODE STATE TEXT";
 
 fn main() -> ExitCode {
@@ -45,6 +45,7 @@ fn answer(words: &[OsString]) -> Option<Result<String, String>> {
 fn printed(call: &str, given: &[OsString]) -> Option<String> {
     match (call, given) {
         ("check", [chart, rule]) => Some(listing(&read(chart, CHART_READ), &read(rule, RULE_READ))),
+        ("count", [chart, rule]) => Some(counted_listing(&read(chart, CHART_READ), &read(rule, RULE_READ))),
         ("kind", [rule]) => Some(kind_line(&whole(rule))),
         ("map", [detail, overview, map]) => Some(map_line(&whole(detail), &whole(overview), &whole(map))),
         ("calls", [chart, rule, ask]) => {

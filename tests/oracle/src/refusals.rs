@@ -11,6 +11,8 @@ pub struct Case<'a> {
     pub rule: &'a [u8],
     pub marks: usize,
     pub scratch: usize,
+    /// The scratch numbers that the call asks for.
+    pub scratch_asked: usize,
     pub overview: &'a [u8],
     pub map: &'a [u8],
 }
@@ -28,7 +30,7 @@ impl<'a> Case<'a> {
 /// The lowest offender if the condition is met; 0 where the row names none.
 type Offender = fn(&Case<'_>) -> Option<usize>;
 
-const TABLE: [(u32, Offender); 23] = [
+const TABLE: [(u32, Offender); 24] = [
     (1, chart::under_9_bytes),
     (2, chart::version_not_1),
     (3, chart::stated_length_not_real),
@@ -52,18 +54,18 @@ const TABLE: [(u32, Offender); 23] = [
     (21, map::entry_names_no_state),
     (22, map::labels_differ),
     (23, map::arrow_not_covered),
+    (63, rule::bound_above_255),
 ];
 
 /// The rows that judge a chart by itself.
 pub const CHART_ALONE: [RangeInclusive<u32>; 2] = [1..=9, 19..=19];
 
-/// The first row met among those asked for, in number order.
+/// The first row met among those asked for: the ranges in their order, each in number order.
 pub fn first_met(case: &Case<'_>, asked: &[RangeInclusive<u32>]) -> Outcome {
-    for (number, offender) in TABLE {
-        if asked.iter().any(|range| range.contains(&number)) {
-            if let Some(place) = offender(case) {
-                return Outcome { number, place: place as u32 };
-            }
+    let rows = asked.iter().flat_map(|range| TABLE.iter().filter(|(number, _)| range.contains(number)));
+    for &(number, offender) in rows {
+        if let Some(place) = offender(case) {
+            return Outcome { number, place: place as u32 };
         }
     }
     Outcome::SUCCESS

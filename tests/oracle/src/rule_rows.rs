@@ -1,4 +1,4 @@
-//! Rows 10 to 18: the rule, and the room lent for its marks.
+//! Rows 10 to 18 and 63: the rule, and the room lent for its marks.
 
 use crate::bytes::{states_real_length, version};
 use crate::chart::state_count;
@@ -56,10 +56,15 @@ pub fn not_used_once(case: &Case<'_>) -> Option<usize> {
     uses.iter().position(|&count| count != 1)
 }
 
+/// A node without a bound has c = 0: row 14 has seen to it.
+pub fn bound_above_255(case: &Case<'_>) -> Option<usize> {
+    nodes(case.rule).position(|node| node.c > 255)
+}
+
 pub fn marks_short(case: &Case<'_>) -> Option<usize> {
     at_0(case.marks < node_count(case.rule) * state_count(case.chart))
 }
 
 pub fn scratch_short(case: &Case<'_>) -> Option<usize> {
-    at_0(case.scratch < 4 * state_count(case.chart))
+    at_0(case.scratch < case.scratch_asked)
 }

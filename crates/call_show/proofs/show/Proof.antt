@@ -1,14 +1,15 @@
 -- Check, rows 60 and 61, then the run in scratch: each answer is one of show's.
 use mathlib.Core.Path.{_≡_, _∙_}
 use mathlib.Core.Logic.{inl}
+use mathlib.Core.Bool.{false}
 use native.Mathlib.Omega.{arith}
 use lib.ListN.{length}
 use borrow.Author.Needs.{needs}
 use denote.Ref.{now}
 use Rattle.chart.proofs.WellFormed.{well-formed}
 use Rattle.rule.proofs.Accepted.{accepted}
-use Rattle.call_check.proofs.Chain.{Admitted}
-use Rattle.call_check.proofs.Promise.{cleared-admitted}
+use Rattle.judge.proofs.Chain.{Admitted}
+use Rattle.judge.proofs.Promise.{cleared-admitted}
 use Rattle.call_show.proofs.Answers.{
   check-showed,
   markable,
@@ -52,7 +53,7 @@ returns c = check-showed (checked (c .before) .check .ensures) _ _ _ (c .if1 .ta
 passed :
     (c : tie.Else1) →
     let a = start (checked (c .before)) .args in
-    Admitted (now (a .chart)) (now (a .rule)) (now (a .marks)) (now (a .scratch))
+    Admitted false (now (a .chart)) (now (a .rule)) (now (a .marks)) (now (a .scratch))
 passed c = cleared-admitted (checked (c .before) .check .ensures) (inl (c .if1 .left))
 
 state-count-requires : tie.Need-state-count-requires

@@ -8,7 +8,14 @@ returns : tie.Need-returns
 returns c = simp (eq-eqb _ _ (c .before .if1 .taken)) (c .is-malformed .ensures)
 
 returns-2 : tie.Need-returns-2
-returns-2 c = simp (ne-eqb _ _ (c .before .if1 .left)) (c .is-not-lower .ensures)
+returns-2 c =
+    let test = c .before in
+    simp (ne-eqb _ _ (test .before .if1 .left), eq-eqb _ _ (test .if2 .taken)) (c .is-not-lower .ensures)
+
+returns-3 : tie.Need-returns-3
+returns-3 c =
+    let else = c .before in
+    simp (ne-eqb _ _ (else .before .if1 .left), ne-eqb _ _ (else .if2 .left))
 
 pub offending-spec : {M : Type 1} → statement M
-offending-spec = tie.close (tie.spec (λ c κs. search needs) returns (λ c κs. search needs) returns-2)
+offending-spec = tie.close (tie.spec (λ c κs. search needs) returns (λ c κs. search needs) returns-2 returns-3)

@@ -18,7 +18,7 @@ use Rattle.settle.proofs.+settle.{statement}
 use Rattle.settle.proofs.+settle.Tie.{close}
 
 abbrev μ-settle : Measures 4 kinds.ps ℕ
-μ-settle κs a = a .1 .1 .1 .1 .0
+μ-settle κs a = a .1 .1 .1 .1 .1 .0
 
 module _ (t : ℕ) where
   abbrev given : In 4 kinds.ps
@@ -82,11 +82,13 @@ module _ (t : ℕ) where
   begun :
       (c : At lts.After-node-at) →
       let a = start (c .before) .args in
-      Begun (now (a .chart)) (a .n) (a .m) (now (a .rule)) (a .t) (c .node-at .result) (now (a .marks)) (now (a .numbers))
+      Begun (a .counting) (now (a .chart)) (a .n) (a .m) (now (a .rule)) (a .t) (c .node-at .result) (now (a .marks))
+      (now (a .numbers))
   begun c =
       let p = start (c .before) .pre .1 in
       record {
         lent = p .0;
+        asked = p .1;
         node = record { accepted = p .1 .unrefused; low = p .1 .inside; read = c .node-at .ensures .0 };
       }
 

@@ -1,7 +1,7 @@
 -- Row t is a part of the marks, and what is put back there leaves the others.
 use borrow.Author.Needs.{needs}
 use denote.Ref.{now}
-use Rattle.until_start.proofs.Rows.{besides-put}
+use Rattle.operands.proofs.Rows.{besides-put}
 use Rattle.until_start.proofs.Lent.{lent-row}
 use Rattle.until_start.proofs.run.Statement.{statement}
 use Rattle.until_start.proofs.run.Tie as tie

@@ -3,7 +3,7 @@ use mathlib.Core.Path.{refl}
 use native.Mathlib.Omega.{arith}
 use borrow.Author.Needs.{needs}
 use Rattle.ways.specs.Way.{ceilingOf}
-use Rattle.until_start.proofs.Rows.{written-as, written-again}
+use Rattle.operands.proofs.Rows.{written-as, written-again}
 use Rattle.until_start.proofs.Waits.{unhindered-by}
 use Rattle.until_start.proofs.unhindered.Statement.{statement}
 use Rattle.until_start.proofs.unhindered.Tie as tie

@@ -3,7 +3,7 @@ use mathlib.Core.Bool.{true}
 use native.Mathlib.Omega.{arith}
 use borrow.Author.Tests.{not-true, not-false}
 use borrow.Author.Needs.{needs}
-use Rattle.until_start.proofs.Rows.{written-as, written-again, written-besides}
+use Rattle.operands.proofs.Rows.{written-as, written-again, written-besides}
 use Rattle.until_twice.proofs.Sure.{all-at-least}
 use Rattle.until_twice.proofs.NoneSure.{none-at-least}
 use Rattle.until_twice.proofs.all_at_least.Statement.{statement}

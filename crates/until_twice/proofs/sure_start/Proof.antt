@@ -7,7 +7,7 @@ use denote.Ref.{now}
 use borrow.Author.Needs.{needs}
 use Rattle.model.specs.Marks.{mark}
 use Rattle.chart.proofs.Reading.{shaped}
-use Rattle.until_start.proofs.Rows.{written-as, lent-written, unmarked, lower-row}
+use Rattle.operands.proofs.Rows.{written-as, lent-written, unmarked, lower-row}
 use Rattle.until_start.proofs.Lent.{joins, rows-inside}
 use Rattle.until_start.proofs.Waits.{plain-answers}
 use Rattle.until_twice.proofs.Sure.{starts-sure}

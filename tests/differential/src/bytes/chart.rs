@@ -44,6 +44,17 @@ impl Chart {
         }
         framed(&words)
     }
+
+    /// Other numbers for the states: number[s] for s.
+    pub fn renumber(&mut self, number: &[usize]) {
+        let labels = self.labels.clone();
+        for (state, word) in labels.into_iter().enumerate() {
+            self.labels[number[state]] = word;
+        }
+        for a in self.arrows.iter_mut() {
+            (a.start, a.end) = (number[a.start as usize] as u16, number[a.end as usize] as u16);
+        }
+    }
 }
 
 /// What the slots of one chart look like.

@@ -23,6 +23,7 @@ pub enum Part {
 #[derive(Clone, Debug, PartialEq, Eq)]
 pub enum Answer {
     Check { number: u32, place: u32, marks: Vec<u8>, scratch: Vec<u32>, arrows: Vec<[u64; 4]> },
+    Count { number: u32, place: u32, marks: Vec<u8>, scratch: Vec<u32> },
     Kind { number: u32, place: u32, kind: Kind },
     Map { number: u32, place: u32 },
     Row(Part),
@@ -35,6 +36,7 @@ impl Answer {
     pub fn outcome(&self) -> Option<(u32, u32)> {
         match *self {
             Answer::Check { number, place, .. } => Some((number, place)),
+            Answer::Count { number, place, .. } => Some((number, place)),
             Answer::Kind { number, place, .. } => Some((number, place)),
             Answer::Map { number, place } => Some((number, place)),
             Answer::Show { number, place, .. } => Some((number, place)),
@@ -82,7 +84,7 @@ mod written {
     }
 }
 
-/// The same six calls of either program, each with its own types.
+/// The same seven calls of either program, each with its own types.
 macro_rules! program {
     ($name:ident) => {
         pub mod $name {
@@ -128,6 +130,11 @@ macro_rules! program {
                         let outcome = program::check(chart, rule, &mut marks, &mut scratch);
                         let (number, place) = (outcome.number, outcome.place);
                         Answer::Check { number, place, marks, scratch, arrows: arrows(chart) }
+                    }
+                    Case::Count { chart, rule, marks, scratch } => {
+                        let (mut marks, mut scratch) = (marks.bytes(), scratch.numbers());
+                        let outcome = program::count(chart, rule, &mut marks, &mut scratch);
+                        Answer::Count { number: outcome.number, place: outcome.place, marks, scratch }
                     }
                     Case::Kind { rule } => kind_of(rule),
                     Case::Map { detail, overview, map } => {

@@ -1,7 +1,7 @@
 //! What the paper says of every answer, whatever the case: both programs are held to it.
 
 use crate::calls::compare::{Answer, Kind};
-use crate::cases::case::Case;
+use crate::cases::case::{Case, Lent};
 
 fn word(bytes: &[u8], at: usize) -> usize {
     match bytes.get(at..at + 2) {
@@ -44,6 +44,31 @@ fn left_by_check(number: u32, chart: &[u8], rule: &[u8]) -> (usize, usize) {
     }
 }
 
+/// The same of count.
+fn left_by_count(number: u32, chart: &[u8], rule: &[u8]) -> (usize, usize) {
+    let (n, k) = (word(chart, 5), word(rule, 5));
+    match number {
+        0 => (k * n, 256 * n),
+        19 => (0, 256 * n),
+        _ => (0, 0),
+    }
+}
+
+/// The lowest node whose bound is above 255; only bounds have a c.
+fn lowest_above(rule: &[u8]) -> Option<u32> {
+    let mut bounds = rule.get(7..)?.chunks_exact(8).map(|node| word(node, 6));
+    bounds.position(|c| c > 255).map(|node| node as u32)
+}
+
+/// Past 16 a bound above 255 is told with its node, and nothing else is.
+fn bound_told(number: u32, place: u32, rule: &[u8]) -> bool {
+    match number {
+        63 => lowest_above(rule) == Some(place),
+        0 | 17..=19 => lowest_above(rule).is_none(),
+        _ => true,
+    }
+}
+
 /// The same of show: past check's own refusals its marks stand.
 fn left_by_show(number: u32, chart: &[u8], rule: &[u8]) -> (usize, usize) {
     let (marks, numbers) = left_by_check(0, chart, rule);
@@ -54,6 +79,14 @@ fn left_by_show(number: u32, chart: &[u8], rule: &[u8]) -> (usize, usize) {
     }
 }
 
+/// Marks and scratch, as lent and after a call that writes so many marks and clears so many numbers.
+fn buffers(left: (usize, usize), marks: (&Lent, &[u8]), scratch: (&Lent, &[u32])) -> Option<&'static str> {
+    if !marks_kept(left.0, &marks.0.bytes(), marks.1) {
+        return Some("marks not kept or not 0 and 1");
+    }
+    (!scratch_kept(left.1, &scratch.0.numbers(), scratch.1)).then_some("scratch not kept or not 0")
+}
+
 /// What is broken, if anything is.
 pub fn broken(case: &Case, answer: &Answer) -> Option<&'static str> {
     if let Some((0, place)) = answer.outcome() {
@@ -61,15 +94,14 @@ pub fn broken(case: &Case, answer: &Answer) -> Option<&'static str> {
             return Some("success has a place");
         }
     }
-    let buffers = |(written, cleared), (lent, marks): (&[u8], &[u8]), (before, scratch): (&[u32], &[u32])| {
-        if !marks_kept(written, lent, marks) {
-            return Some("marks not kept or not 0 and 1");
-        }
-        (!scratch_kept(cleared, before, scratch)).then_some("scratch not kept or not 0")
-    };
     match (case, answer) {
         (Case::Check { chart, rule, marks, scratch }, Answer::Check { number, marks: m, scratch: s, .. }) => {
-            buffers(left_by_check(*number, chart, rule), (&marks.bytes(), m), (&scratch.numbers(), s))
+            buffers(left_by_check(*number, chart, rule), (marks, m), (scratch, s))
+        }
+        (Case::Count { chart, rule, marks, scratch }, Answer::Count { number, place, marks: m, scratch: s }) => {
+            let told = bound_told(*number, *place, rule);
+            buffers(left_by_count(*number, chart, rule), (marks, m), (scratch, s))
+                .or((!told).then_some("a bound above 255 not told, or not its node"))
         }
         (
             Case::Show { chart, rule, marks, scratch, state, output, .. },
@@ -79,8 +111,7 @@ pub fn broken(case: &Case, answer: &Answer) -> Option<&'static str> {
                 return Some("60 to 62 have a place");
             }
             let run = output_kept(*number, *state, *written, &output.bytes(), o);
-            let left = left_by_show(*number, chart, rule);
-            buffers(left, (&marks.bytes(), m), (&scratch.numbers(), s))
+            buffers(left_by_show(*number, chart, rule), (marks, m), (scratch, s))
                 .or((!run).then_some("no run from the state, or output not kept"))
         }
         (_, Answer::Kind { number, kind, .. }) => {

@@ -35,6 +35,10 @@ fn brief(answer: &Answer) -> String {
             let (m, s, a) = (digest(marks), digest(scratch), digest(arrows));
             format!("number {number}, place {place}, marks {m}, scratch {s}, arrows {a}")
         }
+        Answer::Count { number, place, marks, scratch } => {
+            let (m, s) = (digest(marks), digest(scratch));
+            format!("number {number}, place {place}, marks {m}, scratch {s}")
+        }
         Answer::Show { number, place, written, marks, scratch, output } => {
             let (m, s, o) = (digest(marks), digest(scratch), digest(output));
             format!("number {number}, place {place}, written {written}, marks {m}, scratch {s}, output {o}")

@@ -3,6 +3,7 @@
 use std::time::Instant;
 
 use crate::calls::compare::{both, Answer, Both};
+use crate::calls::count_as_check;
 use crate::calls::promises;
 use crate::calls::report::{self, say};
 use crate::calls::show_judge;
@@ -10,10 +11,12 @@ use crate::calls::summary::Summary;
 use crate::cases::case::Case;
 use crate::cases::last::{Last, Which};
 use crate::named::charts;
+use crate::named::counts;
 use crate::named::expected::Named;
 use crate::named::items;
 use crate::named::large;
 use crate::named::maps;
+use crate::named::minutes;
 use crate::named::rules;
 use crate::named::shows;
 use crate::random::generate;
@@ -29,6 +32,8 @@ fn named() -> Vec<Named> {
     rules::all(&mut list);
     maps::all(&mut list);
     shows::all(&mut list);
+    counts::all(&mut list);
+    minutes::all(&mut list);
     large::all(&mut list);
     list
 }
@@ -40,8 +45,8 @@ fn difference(case: &Case, answers: &Both) -> Option<String> {
     }
     let sides = [("the library", &answers.library), ("the oracle", &answers.oracle)];
     let broken = |(name, answer): &(&str, &Answer)| Some(format!("{name}: {}", promises::broken(case, answer)?));
-    let judged = || Some(format!("the library: {}", show_judge::wrong(case, &answers.library)?));
-    sides.iter().find_map(broken).or_else(judged)
+    let judged = || show_judge::wrong(case, &answers.library).or_else(|| count_as_check::wrong(case, &answers.library));
+    sides.iter().find_map(broken).or_else(|| Some(format!("the library: {}", judged()?)))
 }
 
 fn against_paper(case: &Named, answers: &Both) -> Option<String> {

@@ -6,7 +6,7 @@ use crate::bytes::rule::{A, E};
 use crate::calls::compare::Answer;
 use crate::cases::case::Case;
 
-const KINDS: [&str; 30] = [
+pub const KINDS: [&str; 30] = [
     "E at most shown",
     "E at least shown",
     "A at most shown",
@@ -41,9 +41,6 @@ const KINDS: [&str; 30] = [
 
 /// Bytes that are enough for every run.
 const MAX_RUN: usize = 257 * 6;
-
-#[derive(Default)]
-pub struct ShowMet([u64; KINDS.len()]);
 
 /// What is asked of an accepted chart and rule.
 struct Asked<'a> {
@@ -124,7 +121,8 @@ impl Asked<'_> {
     }
 }
 
-fn kinds(case: &Case, answer: &Answer) -> Vec<&'static str> {
+/// Those that a show met.
+pub fn kinds(case: &Case, answer: &Answer) -> Vec<&'static str> {
     let Case::Show { chart, rule, scratch, node, state, output, .. } = case else {
         return Vec::new();
     };
@@ -160,30 +158,11 @@ fn kinds(case: &Case, answer: &Answer) -> Vec<&'static str> {
     }
 }
 
-impl ShowMet {
-    pub fn add(&mut self, case: &Case, answer: &Answer) {
-        for kind in kinds(case, answer) {
-            if let Some(at) = KINDS.iter().position(|known| *known == kind) {
-                self.0[at] += 1;
-            }
-        }
-    }
-
-    /// What no show met.
-    pub fn missing(&self) -> impl Iterator<Item = &'static str> + '_ {
-        KINDS.into_iter().zip(self.0).filter(|(_, count)| *count == 0).map(|(kind, _)| kind)
-    }
-
-    pub fn text(&self) -> String {
-        let lines = KINDS.iter().zip(self.0).map(|(kind, count)| format!("{count:>12}  {kind}\n"));
-        format!("shows met\n{}", lines.collect::<String>())
-    }
-}
-
 #[cfg(test)]
 mod tests {
-    use super::{kinds, ShowMet, KINDS};
+    use super::{kinds, KINDS};
     use crate::calls::compare::oracle;
+    use crate::calls::met::Met;
     use crate::named::shows;
     use crate::random::generate;
 
@@ -214,13 +193,13 @@ mod tests {
 
     #[test]
     fn a_kind_is_missing_until_it_is_met() {
-        let mut all = ShowMet::default();
+        let mut all = Met::of(KINDS);
         assert!(all.missing().eq(KINDS));
         for number in 0..2_000 {
             let case = generate::random(1, number);
             let answer = oracle::run(&case);
             let kinds = kinds(&case, &answer);
-            all.add(&case, &answer);
+            all.add(&kinds);
             assert!(kinds.iter().all(|kind| KINDS.contains(kind)), "{kinds:?}");
             assert!(all.missing().all(|kind| !kinds.contains(&kind)));
         }

@@ -1,34 +1,36 @@
-//! What was met: numbers per call, marks per operation, kinds of rule, and what the shows met.
+//! What was met: numbers per call, marks per operation, kinds of rule, and what the shows and the counts met.
 
 use crate::calls::compare::{Answer, Kind, Part};
-use crate::calls::show_met::ShowMet;
+use crate::calls::met::Met;
+use crate::calls::{count_met, show_met};
 use crate::cases::case::{Case, CALLS};
 
-const NUMBERS: usize = 63;
-/// Places in `CALLS`: the calls that answer a number, and show.
-const NUMBERED: [usize; 4] = [0, 1, 2, SHOW];
+const NUMBERS: usize = 64;
+/// Places in `CALLS`: the calls that answer a number, show and count.
+const NUMBERED: [usize; 5] = [0, COUNT, 1, 2, SHOW];
 const SHOW: usize = 4;
+const COUNT: usize = 5;
 const FORMS: [&str; 9] = ["true", "label", "not", "and", "or", "E at most", "E at least", "A at most", "A at least"];
 const KINDS: [Kind; 4] = [Kind::AllRuns, Kind::SomeRun, Kind::Both, Kind::Neither];
 
 /// From this many cases on, the random ones have to meet every number by themselves.
 const ENOUGH: u64 = 200_000;
 
-/// One random case in so many, at least, has to be a show.
-const SHOWS: u64 = 20;
+/// One random case in so many, at least, has to be a show, and one a count.
+const SHARE: u64 = 20;
 
-#[derive(Default)]
 pub struct Summary {
-    cases: [u64; 5],
+    cases: [u64; CALLS.len()],
     random: u64,
     /// Per call and number: named cases, random cases.
-    numbers: Vec<[[u64; 2]; 5]>,
+    numbers: Vec<[[u64; 2]; CALLS.len()]>,
     /// Per form of a node: marks that are 1, marks in all.
     marks: [[u64; 2]; 9],
     kinds: [u64; 4],
     parts: [u64; 2],
     /// Of the random ones.
-    shows: ShowMet,
+    shows: Met,
+    counts: Met,
 }
 
 /// The numbers that a call can answer with.
@@ -38,6 +40,7 @@ fn possible(call: usize, number: usize) -> bool {
         1 => number == 0 || (10..=16).contains(&number),
         2 => number <= 9 || (19..=23).contains(&number) || (41..=49).contains(&number) || number == 59,
         SHOW => number <= 19 || (60..=62).contains(&number),
+        COUNT => number <= 19 || number == 63,
         _ => false,
     }
 }
@@ -54,7 +57,16 @@ fn form(operation: u8, kind: u8) -> usize {
 
 impl Summary {
     pub fn new() -> Summary {
-        Summary { numbers: vec![[[0; 2]; 5]; NUMBERS], ..Summary::default() }
+        Summary {
+            cases: [0; CALLS.len()],
+            random: 0,
+            numbers: vec![[[0; 2]; CALLS.len()]; NUMBERS],
+            marks: [[0; 2]; 9],
+            kinds: [0; 4],
+            parts: [0; 2],
+            shows: Met::of(show_met::KINDS),
+            counts: Met::of(count_met::all()),
+        }
     }
 
     pub fn total(&self) -> u64 {
@@ -76,7 +88,8 @@ impl Summary {
             }
             (_, Answer::Kind { number: 0, kind, .. }) => self.kinds[*kind as usize] += 1,
             (_, Answer::Row(part)) => self.parts[(*part != Part::Empty) as usize] += 1,
-            (Case::Show { .. }, _) if random => self.shows.add(case, answer),
+            (Case::Show { .. }, _) if random => self.shows.add(&show_met::kinds(case, answer)),
+            (Case::Count { .. }, _) if random => self.counts.add(&count_met::kinds(case, answer)),
             _ => {}
         }
     }
@@ -96,13 +109,20 @@ impl Summary {
         }
     }
 
-    fn random_shows(&self) -> u64 {
-        self.numbers.iter().map(|row| row[SHOW][1]).sum()
-    }
-
-    /// Each number that a call never met, each form whose marks were all alike, and what no show met.
+    /// Each number that a call never met, each form whose marks were all alike, and what no show and no count met.
     pub fn missing(&self) -> Vec<String> {
         let strict = self.random >= ENOUGH;
+        let mut missing = self.missing_numbers(strict);
+        for (kind, _) in KINDS.iter().zip(self.kinds).filter(|(_, met)| *met == 0) {
+            missing.push(format!("kind {kind:?}"));
+        }
+        if strict {
+            missing.extend(self.missing_kinds());
+        }
+        missing
+    }
+
+    fn missing_numbers(&self, strict: bool) -> Vec<String> {
         let mut missing = Vec::new();
         for (number, row) in self.numbers.iter().enumerate() {
             for call in NUMBERED.into_iter().filter(|&call| possible(call, number)) {
@@ -112,19 +132,23 @@ impl Summary {
                 }
             }
         }
-        for (kind, _) in KINDS.iter().zip(self.kinds).filter(|(_, met)| *met == 0) {
-            missing.push(format!("kind {kind:?}"));
-        }
+        missing
+    }
+
+    /// What enough random cases have to meet.
+    fn missing_kinds(&self) -> Vec<String> {
+        let mut missing = Vec::new();
         for (form, [ones, all]) in FORMS.iter().zip(self.marks).skip(1) {
-            if strict && (ones == 0 || ones == all) {
+            if ones == 0 || ones == all {
                 missing.push(format!("both marks of {form}"));
             }
         }
-        if strict {
-            missing.extend(self.shows.missing().map(|kind| format!("show: {kind}")));
-        }
-        if strict && self.random_shows() * SHOWS < self.random {
-            missing.push(format!("a show in {SHOWS} random cases"));
+        for (call, met) in [(SHOW, &self.shows), (COUNT, &self.counts)] {
+            missing.extend(met.missing().map(|kind| format!("{}: {kind}", CALLS[call])));
+            let random: u64 = self.numbers.iter().map(|row| row[call][1]).sum();
+            if random * SHARE < self.random {
+                missing.push(format!("a {} in {SHARE} random cases", CALLS[call]));
+            }
         }
         missing
     }
@@ -169,7 +193,7 @@ impl Summary {
         for (kind, met) in KINDS.iter().zip(self.kinds) {
             text += &format!("{:>12}  met {met} times\n", format!("{kind:?}"));
         }
-        text + &self.shows.text()
+        text + &format!("shows met\n{}counts met\n{}", self.shows.text(), self.counts.text())
     }
 }
 

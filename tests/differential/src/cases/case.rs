@@ -18,13 +18,14 @@ pub enum Table {
 #[derive(Clone, Debug, PartialEq, Eq)]
 pub enum Case {
     Check { chart: Vec<u8>, rule: Vec<u8>, marks: Lent, scratch: Lent },
+    Count { chart: Vec<u8>, rule: Vec<u8>, marks: Lent, scratch: Lent },
     Kind { rule: Vec<u8> },
     Map { detail: Vec<u8>, overview: Vec<u8>, map: Vec<u8> },
     Row { overview: Vec<u8>, detail: Vec<u8>, choice: Table, n: usize, t: usize },
     Show { chart: Vec<u8>, rule: Vec<u8>, marks: Lent, scratch: Lent, node: usize, state: usize, output: Lent },
 }
 
-pub const CALLS: [&str; 5] = ["check", "kind", "map", "row", "show"];
+pub const CALLS: [&str; 6] = ["check", "kind", "map", "row", "show", "count"];
 
 impl Lent {
     pub fn new(length: usize, fill: u64) -> Lent {
@@ -51,6 +52,7 @@ impl Case {
             Case::Map { .. } => 2,
             Case::Row { .. } => 3,
             Case::Show { .. } => 4,
+            Case::Count { .. } => 5,
         }
     }
 }

@@ -10,15 +10,16 @@ fn lent_text(lent: &Lent) -> String {
     format!("{}/{:x}", lent.length, lent.fill)
 }
 
+/// What check, count and show are all lent.
+fn marking_text(chart: &[u8], rule: &[u8], marks: &Lent, scratch: &Lent) -> String {
+    let (marks, scratch) = (lent_text(marks), lent_text(scratch));
+    format!("chart={} rule={} marks={marks} scratch={scratch}", hex(chart), hex(rule))
+}
+
 pub fn text(case: &Case) -> String {
     match case {
-        Case::Check { chart, rule, marks, scratch } => format!(
-            "check chart={} rule={} marks={} scratch={}",
-            hex(chart),
-            hex(rule),
-            lent_text(marks),
-            lent_text(scratch)
-        ),
+        Case::Check { chart, rule, marks, scratch } => format!("check {}", marking_text(chart, rule, marks, scratch)),
+        Case::Count { chart, rule, marks, scratch } => format!("count {}", marking_text(chart, rule, marks, scratch)),
         Case::Kind { rule } => format!("kind rule={}", hex(rule)),
         Case::Map { detail, overview, map } => {
             format!("map detail={} overview={} map={}", hex(detail), hex(overview), hex(map))
@@ -28,14 +29,10 @@ pub fn text(case: &Case) -> String {
             let tables = format!("overview={} detail={}", hex(overview), hex(detail));
             format!("row {tables} choice={choice} n={n} t={t}")
         }
-        Case::Show { chart, rule, marks, scratch, node, state, output } => format!(
-            "show chart={} rule={} marks={} scratch={} node={node} state={state} output={}",
-            hex(chart),
-            hex(rule),
-            lent_text(marks),
-            lent_text(scratch),
-            lent_text(output)
-        ),
+        Case::Show { chart, rule, marks, scratch, node, state, output } => {
+            let (lent, output) = (marking_text(chart, rule, marks, scratch), lent_text(output));
+            format!("show {lent} node={node} state={state} output={output}")
+        }
     }
 }
 
@@ -65,6 +62,11 @@ impl<'a> Fields<'a> {
         Ok(Lent::new(length, fill))
     }
 
+    /// Chart, rule, marks and scratch.
+    fn marking(&self) -> Result<(Vec<u8>, Vec<u8>, Lent, Lent), String> {
+        Ok((self.bytes("chart")?, self.bytes("rule")?, self.lent("marks")?, self.lent("scratch")?))
+    }
+
     fn number(&self, name: &str) -> Result<usize, String> {
         self.get(name)?.parse().map_err(|_| format!("{name}= is not a number"))
     }
@@ -84,12 +86,14 @@ pub fn parse(line: &str) -> Result<Case, String> {
     let fields: Option<Vec<_>> = words.map(|word| word.split_once('=')).collect();
     let fields = Fields(fields.ok_or("a field of the case has no =")?);
     match call {
-        "check" => Ok(Case::Check {
-            chart: fields.bytes("chart")?,
-            rule: fields.bytes("rule")?,
-            marks: fields.lent("marks")?,
-            scratch: fields.lent("scratch")?,
-        }),
+        "check" => {
+            let (chart, rule, marks, scratch) = fields.marking()?;
+            Ok(Case::Check { chart, rule, marks, scratch })
+        }
+        "count" => {
+            let (chart, rule, marks, scratch) = fields.marking()?;
+            Ok(Case::Count { chart, rule, marks, scratch })
+        }
         "kind" => Ok(Case::Kind { rule: fields.bytes("rule")? }),
         "map" => Ok(Case::Map {
             detail: fields.bytes("detail")?,
@@ -103,15 +107,11 @@ pub fn parse(line: &str) -> Result<Case, String> {
             n: fields.number("n")?,
             t: fields.number("t")?,
         }),
-        "show" => Ok(Case::Show {
-            chart: fields.bytes("chart")?,
-            rule: fields.bytes("rule")?,
-            marks: fields.lent("marks")?,
-            scratch: fields.lent("scratch")?,
-            node: fields.number("node")?,
-            state: fields.number("state")?,
-            output: fields.lent("output")?,
-        }),
+        "show" => {
+            let (chart, rule, marks, scratch) = fields.marking()?;
+            let (node, state, output) = (fields.number("node")?, fields.number("state")?, fields.lent("output")?);
+            Ok(Case::Show { chart, rule, marks, scratch, node, state, output })
+        }
         _ => Err(format!("unknown call {call:?} in the case")),
     }
 }
@@ -131,7 +131,17 @@ mod tests {
 
     #[test]
     fn other_lines_are_refused() {
-        for line in ["", "chek", "kind", "kind rule", "kind rule=0", "kind rule=0g", "row n=1", "show chart= rule="] {
+        for line in [
+            "",
+            "chek",
+            "kind",
+            "kind rule",
+            "kind rule=0",
+            "kind rule=0g",
+            "row n=1",
+            "show chart= rule=",
+            "count chart= rule=",
+        ] {
             assert!(parse(line).is_err(), "{line}");
         }
     }

@@ -9,11 +9,13 @@ use crate::random::damage::restate;
 
 pub type List = Vec<Named>;
 
-/// A chart in check and in show, then as the detail and as the overview of a map check.
+/// A chart in check, in count and in show, then as the detail and as the overview of a map check.
 fn chart_row(list: &mut List, name: &str, chart: Vec<u8>, number: u32, place: u32) {
     let n = chart.get(5..7).map_or(0, |two| u16::from_be_bytes([two[0], two[1]]) as usize);
     let as_check = check(chart.clone(), rule::bytes(&just_true()), n, 4 * n);
     add(list, &format!("{name}, check"), as_check, Expected::Outcome(number, place));
+    let as_count = count(chart.clone(), rule::bytes(&just_true()), n, 256 * n);
+    add(list, &format!("{name}, count"), as_count, Expected::Outcome(number, place));
     let as_show = show((chart.clone(), rule::bytes(&just_true())), n, 257 * n, [0, 0], 6);
     add(list, &format!("{name}, show"), as_show, Expected::Outcome(after_check(number), place));
     let as_detail = map(chart.clone(), chart.clone(), identity(n));

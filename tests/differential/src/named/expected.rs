@@ -38,15 +38,19 @@ fn digits(marks: &[u8]) -> String {
 impl Named {
     pub fn met(&self, answer: &Answer) -> bool {
         match (&self.expected, answer) {
-            (Expected::Last(text), Answer::Check { number: 0, place: 0, marks, .. }) => {
+            (
+                Expected::Last(text),
+                Answer::Check { number: 0, place: 0, marks, .. } | Answer::Count { number: 0, place: 0, marks, .. },
+            ) => {
                 let Some(first) = self.last_row(text.len()) else {
                     return false;
                 };
                 marks.get(first..first + text.len()).is_some_and(|row| digits(row) == *text)
             }
-            (Expected::Marks(text), Answer::Check { number: 0, place: 0, marks, .. }) => {
-                marks.get(..text.len()).is_some_and(|all| digits(all) == *text)
-            }
+            (
+                Expected::Marks(text),
+                Answer::Check { number: 0, place: 0, marks, .. } | Answer::Count { number: 0, place: 0, marks, .. },
+            ) => marks.get(..text.len()).is_some_and(|all| digits(all) == *text),
             (Expected::Kind(wanted), Answer::Kind { number: 0, place: 0, kind }) => kind == wanted,
             (Expected::EmptyPart, Answer::Row(part)) => *part == Part::Empty,
             (Expected::Part(from, length), Answer::Row(Part::At { offset, bytes })) => {
@@ -64,7 +68,7 @@ impl Named {
     /// Where the last node's marks begin.
     fn last_row(&self, n: usize) -> Option<usize> {
         match &self.case {
-            Case::Check { rule, .. } => Some((rule.len() - 7) / 8 * n - n),
+            Case::Check { rule, .. } | Case::Count { rule, .. } => Some((rule.len() - 7) / 8 * n - n),
             _ => None,
         }
     }
@@ -78,6 +82,16 @@ pub fn check(chart: Vec<u8>, rule: Vec<u8>, marks: usize, scratch: usize) -> Cas
 pub fn exact(chart: &Chart, nodes: &[Node]) -> Case {
     let n = chart.states();
     check(chart.bytes(), rule::bytes(nodes), n * nodes.len(), 4 * n)
+}
+
+pub fn count(chart: Vec<u8>, rule: Vec<u8>, marks: usize, scratch: usize) -> Case {
+    Case::Count { chart, rule, marks: Lent::new(marks, FILL), scratch: Lent::new(scratch, FILL + 1) }
+}
+
+/// A count with buffers that are exactly long enough.
+pub fn exact_count(chart: &Chart, nodes: &[Node]) -> Case {
+    let n = chart.states();
+    count(chart.bytes(), rule::bytes(nodes), n * nodes.len(), 256 * n)
 }
 
 /// A show of chart and rule, given the lengths of marks and scratch, node and state, and the length of the output.

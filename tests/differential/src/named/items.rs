@@ -4,7 +4,7 @@ use crate::bytes::chart::{arrow, Chart, NO_END};
 use crate::bytes::rule::{self, node, plain, Node, A, AND, E, LABEL, NOT, OR, TRUE};
 use crate::calls::compare::Kind;
 use crate::cases::case::{Case, Table};
-use crate::named::expected::{add, exact, one, row, short, undo, Expected, Named};
+use crate::named::expected::{add, exact, exact_count, one, row, short, undo, Expected, Named};
 
 const AT_MOST: u8 = 1;
 const AT_LEAST: u8 = 2;
@@ -29,6 +29,9 @@ fn not_yet(operation: u8, kind: u8, c: usize) -> Vec<Node> {
 
 fn item(list: &mut Vec<Named>, number: u32, chart: &Chart, nodes: &[Node], marks: &'static str) {
     add(list, &format!("item {number}"), exact(chart, nodes), Expected::Last(marks));
+    let greatest = nodes.iter().map(|node| node.c).max();
+    let counted = if greatest > Some(255) { Expected::Outcome(63, 2) } else { Expected::Last(marks) };
+    add(list, &format!("item {number}, count"), exact_count(chart, nodes), counted);
 }
 
 fn thirteen(list: &mut Vec<Named>) {
@@ -53,6 +56,8 @@ fn thirteen(list: &mut Vec<Named>) {
 fn listing(list: &mut Vec<Named>) {
     let case = exact(&short(), &eventually(A, AT_MOST, 2, 13));
     add(list, "listing", case, Expected::Marks("111001011"));
+    let case = exact_count(&short(), &eventually(A, AT_MOST, 2, 13));
+    add(list, "listing, count", case, Expected::Marks("111001011"));
 }
 
 /// 0 to 1 and 1 to 2 with one duration each, then 2 to 2 for good; label 2 at state 2.

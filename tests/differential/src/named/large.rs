@@ -1,8 +1,8 @@
-//! The largest charts under large bounds. No marks are written for them: they are accepted, and both programs agree.
+//! The largest charts under large bounds, and under the greatest that is counted to. No marks are written for them: they are accepted, and both programs agree.
 
 use crate::bytes::chart::{arrow, without_zero_loops, Arrow, Chart, NO_END};
 use crate::bytes::rule::{node, plain, Node, A, E, LABEL, OR};
-use crate::named::expected::{add, exact, Expected, Named};
+use crate::named::expected::{add, exact, exact_count, Expected, Named};
 use crate::random::rng::Rng;
 
 const STATES: usize = 256;
@@ -94,7 +94,24 @@ fn test(list: &mut Vec<Named>, name: &str, chart: &Chart, c: usize) {
     add(list, &name, exact(chart, &four_untils(c)), Expected::Outcome(0, 0));
 }
 
+/// Of count, under the greatest bound.
+fn counts(list: &mut Vec<Named>) {
+    let c = 255;
+    let mut test = |name: &str, chart: Chart| {
+        let case = exact_count(&chart, &four_untils(c));
+        add(list, &format!("large: {name}, count, bound {c}"), case, Expected::Outcome(0, 0));
+    };
+    for minutes in [5, 150] {
+        test(&format!("random up to {minutes} minutes or no end"), random(minutes, true));
+        test(&format!("waiting, up to {minutes} minutes"), waiting(minutes));
+    }
+    test("chain", chain(c, STATES - 1));
+    test("zigzag", zigzag(c, STATES - 1));
+    test("zigzag-loop", zigzag(c, 0));
+}
+
 pub fn all(list: &mut Vec<Named>) {
+    counts(list);
     // Long slots come to the bound in a few arrows, short ones by loops alone. Long ones under the largest bound would
     // take the oracle too long, but for the chains.
     for (minutes, c) in [(20, 2_500), (1_600, 2_500), (20, 65_535)] {

@@ -1,9 +1,11 @@
 //! 01's own cases, with the answer written beside each.
 
 pub mod charts;
+pub mod counts;
 pub mod expected;
 pub mod items;
 pub mod large;
 pub mod maps;
+pub mod minutes;
 pub mod rules;
 pub mod shows;

@@ -3,12 +3,23 @@
 use crate::bytes::rule::{self, node, plain, Node, A, AND, E, LABEL, NOT, OR, TRUE};
 use crate::cases::case::Case;
 use crate::named::charts::{after_check, resized, with_first, List};
-use crate::named::expected::{add, check, just_true, short, show, Expected};
+use crate::named::expected::{add, check, count, just_true, short, show, Expected};
 
-/// A rule in check and in show over Short and in kind of rule.
+/// What count answers where check answers this: 63 too, for a bound above 255.
+fn counted(rule: &[u8], number: u32, place: u32) -> Expected {
+    let mut nodes = rule.get(7..).unwrap_or(&[]).chunks_exact(8);
+    match nodes.position(|node| node[6] > 0) {
+        Some(node) if number == 0 => Expected::Outcome(63, node as u32),
+        _ => Expected::Outcome(number, place),
+    }
+}
+
+/// A rule in check, in count and in show over Short and in kind of rule.
 fn rule_row(list: &mut List, name: &str, rule: Vec<u8>, number: u32, place: u32) {
     let as_check = check(short().bytes(), rule.clone(), 64 * 3, 12);
     add(list, &format!("{name}, check"), as_check, Expected::Outcome(number, place));
+    let as_count = count(short().bytes(), rule.clone(), 64 * 3, 256 * 3);
+    add(list, &format!("{name}, count"), as_count, counted(&rule, number, place));
     let as_show = show((short().bytes(), rule.clone()), 64 * 3, 257 * 3, [0, 0], 6);
     add(list, &format!("{name}, show"), as_show, Expected::Outcome(after_check(number), place));
     let as_kind = Case::Kind { rule };

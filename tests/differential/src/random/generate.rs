@@ -3,6 +3,7 @@
 use crate::bytes::chart;
 use crate::bytes::rule;
 use crate::cases::case::{Case, Lent};
+use crate::random::counts;
 use crate::random::damage;
 use crate::random::faults;
 use crate::random::maps;
@@ -11,7 +12,7 @@ use crate::random::rows;
 use crate::random::shows;
 use crate::random::trees;
 
-/// How many cases in 107 are checks.
+/// How many cases in 114 are checks.
 const CHECKS: usize = 60;
 
 /// A lent buffer that needs `exact` places: mostly enough of them, one too short at times.
@@ -102,11 +103,12 @@ pub fn check(rng: &mut Rng) -> Case {
 
 pub fn random(seed: u64, number: u64) -> Case {
     let mut rng = Rng::of_case(seed, number);
-    match rng.below(107) {
+    match rng.below(114) {
         share @ 0..CHECKS => check_of(&mut rng, share),
         60..=69 => kind(&mut rng),
         70..=91 => maps::random(&mut rng),
         92..=99 => rows::random(&mut rng),
-        _ => shows::random(&mut rng),
+        100..=106 => shows::random(&mut rng),
+        _ => counts::random(&mut rng),
     }
 }

@@ -34,13 +34,7 @@ fn lasso(rng: &mut Rng, n: usize, minutes: u16) -> Chart {
 fn mixed(rng: &mut Rng, chart: &mut Chart) -> usize {
     let mut number: Vec<usize> = (0..chart.states()).collect();
     rng.shuffle(&mut number);
-    let labels = chart.labels.clone();
-    for (state, word) in labels.into_iter().enumerate() {
-        chart.labels[number[state]] = word;
-    }
-    for a in chart.arrows.iter_mut() {
-        (a.start, a.end) = (number[a.start as usize] as u16, number[a.end as usize] as u16);
-    }
+    chart.renumber(&number);
     rng.shuffle(&mut chart.arrows);
     number[0]
 }

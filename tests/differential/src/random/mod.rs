@@ -1,6 +1,7 @@
 //! Random cases.
 
 pub mod asked;
+pub mod counts;
 pub mod damage;
 pub mod dense_runs;
 pub mod faults;
@@ -11,4 +12,5 @@ pub mod rng;
 pub mod rows;
 pub mod shows;
 pub mod telling;
+pub mod timed_lines;
 pub mod trees;

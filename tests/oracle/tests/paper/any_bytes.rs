@@ -3,7 +3,8 @@
 use crate::make::{label, map, rule, run, short, undo, Numbers, TRUE};
 use crate::show_call::call;
 use oracle::{
-    arrow, calls_text, check, fewest_steps, judge_run, judge_why, kind_of_rule, listing, map_check, why_text,
+    arrow, calls_text, check, count, counted_listing, fewest_steps, judge_run, judge_why, kind_of_rule, listing,
+    map_check, why_text,
 };
 
 /// Some bytes replaced, then cut or lengthened now and then.
@@ -27,9 +28,11 @@ fn damaged_bytes() {
         let (rule, map) = (damaged(&mut numbers, three.clone()), damaged(&mut numbers, map(&[0, 1, 2])));
         let (marks, scratch) = (numbers.below(20) as usize, numbers.below(20) as usize);
         check(&chart, &rule, &mut vec![7; marks], &mut vec![9; scratch]);
+        count(&chart, &rule, &mut vec![7; marks], &mut vec![9; 760 + scratch]);
         kind_of_rule(&rule);
         map_check(&chart, &overview, &map);
         listing(&chart, &rule);
+        counted_listing(&chart, &rule);
         calls_text(&chart, &rule, &map);
         arrow(&chart, numbers.below(5) as usize);
     }
@@ -56,6 +59,7 @@ fn all_ones_and_nothing() {
     for length in 0..40 {
         let bytes = vec![255; length];
         assert_eq!(check(&bytes, &bytes, &mut [], &mut []).number, if length < 9 { 1 } else { 2 });
+        assert_eq!(count(&bytes, &bytes, &mut [], &mut []).number, if length < 9 { 1 } else { 2 });
         assert_eq!(kind_of_rule(&bytes).outcome.number, if length < 7 { 10 } else { 11 });
         assert_eq!(map_check(&short(), &short(), &bytes).number, 20);
     }

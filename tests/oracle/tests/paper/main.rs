@@ -3,6 +3,10 @@
 mod any_bytes;
 mod buffers;
 mod calls;
+mod count_agrees;
+mod count_buffers;
+mod count_refusals;
+mod counted;
 mod durations;
 mod fewest;
 mod items;

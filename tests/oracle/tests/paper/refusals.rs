@@ -1,20 +1,28 @@
 //! The small input of rows 1 to 19, and the order of the tests.
 
 use crate::make::{chart, label, not, one, rule, short, TRUE};
-use oracle::{check, kind_of_rule, Kind, Outcome};
+use oracle::{check, count, kind_of_rule, Kind, Outcome};
 
 fn with_room(chart: &[u8], rule: &[u8], marks: usize, scratch: usize) -> (u32, u32) {
     let Outcome { number, place } = check(chart, rule, &mut vec![7; marks], &mut vec![9; scratch]);
     (number, place)
 }
 
+/// Count must refuse as check does, with room for both.
+fn of_both(chart: &[u8], rule: &[u8]) -> (u32, u32) {
+    let counted = count(chart, rule, &mut vec![7; 64 * 256], &mut vec![9; 256 * 256]);
+    let refused = with_room(chart, rule, 64 * 256, 4 * 256);
+    assert_eq!((counted.number, counted.place), refused);
+    refused
+}
+
 fn of_chart(chart: &[u8]) -> (u32, u32) {
-    with_room(chart, &rule(&[TRUE]), 64 * 256, 4 * 256)
+    of_both(chart, &rule(&[TRUE]))
 }
 
 /// Kind of rule must refuse a rule as check does.
 fn of_rule(rule: &[u8]) -> (u32, u32) {
-    let refused = with_room(&short(), rule, 64 * 256, 4 * 256);
+    let refused = of_both(&short(), rule);
     let answer = kind_of_rule(rule);
     assert_eq!((answer.outcome.number, answer.outcome.place), refused);
     assert_eq!(answer.kind, Kind::Neither);

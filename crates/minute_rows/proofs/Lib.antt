@@ -1,0 +1,15 @@
+pub mod Reading
+pub mod Local
+pub mod Capped
+pub mod Answers
+pub mod Added
+pub mod Following
+pub mod Sound
+pub mod Keeping
+pub mod Sweeping
+pub mod Growing
+pub mod Tasks
+pub mod Beginning
+pub mod Closing
+pub mod Collecting
+pub mod Row

@@ -1,0 +1,109 @@
+-- Invariant: the rows with fewer minutes left are filled.
+use mathlib.Core.Path.{_≡_, refl, subst, _∙_}
+use mathlib.Core.List.{List}
+use Prim.Native.Nat.{ℕ, _≤_, _-_}
+use native.Mathlib.Omega.{arith}
+use lib.ListN.{length}
+use denote.Ref.{now}
+use borrow.Author.Needs.{needs}
+use Rattle.tctl.specs.Chart.{Chart}
+use Rattle.model.proofs.Marks.{row-below}
+use Rattle.chart.specs.Bytes.{chartOf}
+use Rattle.chart.proofs.Reading.{counted}
+use Rattle.minutes.specs.Makes.{Task}
+use Rattle.minute_rows.specs.Numbers.{taskIn}
+use Rattle.minute_rows.specs.Filled.{Filled}
+use Rattle.minute_rows.proofs.fill_rows.Statement.{statement}
+use Rattle.minute_rows.proofs.fill_rows.Tie as tie
+
+abbrev Inv-loop : tie.InvT-loop
+Inv-loop asked count chart n m p q beyond numbers₀ words ends minute₀ numbers minute =
+    (minute ≤ count) × (length numbers ≡ length numbers₀) ×
+    Filled (chartOf chart) n (taskIn asked p q beyond) minute numbers
+
+abbrev μ-loop : tie.MeasureT-loop
+μ-loop asked count chart n m p q beyond numbers₀ words ends minute₀ numbers minute = count - minute
+
+-- the start, where the arrows are collected, where a row is filled, a turn, and the start from the loop
+abbrev start : tie.After-words Inv-loop μ-loop → tie.Start Inv-loop μ-loop
+start c = c .before .before .before .before .before .before
+
+abbrev gathered : tie.At-loop Inv-loop μ-loop → tie.After-collect Inv-loop μ-loop
+gathered c = c .before .before
+
+abbrev filled : tie.After-slice-known2 Inv-loop μ-loop → tie.After-fill-row Inv-loop μ-loop
+filled c = c .before .before
+
+abbrev turn : tie.After-fill-row Inv-loop μ-loop → tie.In-loop Inv-loop μ-loop
+turn c = c .before .before .before
+
+abbrev begun : tie.At-loop Inv-loop μ-loop → tie.Start Inv-loop μ-loop
+begun c = start (gathered c .before)
+
+-- so many rows
+filled-as :
+    {G : Chart} {n : ℕ} (w : Task) {k j : ℕ} {numbers : List ℕ} → k ≡ j → Filled G n w k numbers →
+    Filled G n w j numbers
+filled-as {G} {n} w {numbers = numbers} e = subst (λ k. Filled G n w k numbers) e
+
+-- the task
+abbrev asked-in : tie.At-loop Inv-loop μ-loop → Task
+asked-in c =
+    let a = begun c .args in
+    taskIn (a .asked) (now (a .p)) (now (a .q)) (now (a .beyond))
+
+collect-requires : tie.Need-collect-requires Inv-loop μ-loop
+collect-requires c κs =
+    let p = start c .pre in
+    record { passed = p .passed; first = p .first; second = p .second; room = refl }
+
+loop-holds : tie.Need-loop-holds Inv-loop μ-loop
+loop-holds c = (omega arith, refl, record { last = λ m s l. absurd (let z : ⊥ = omega arith in z) })
+
+slice-aggregate-fill-row : tie.Need-slice-aggregate-fill-row Inv-loop μ-loop
+slice-aggregate-fill-row c = search needs
+
+fill-row-requires : tie.Need-fill-row-requires Inv-loop μ-loop
+fill-row-requires c κs =
+    let known = c .before in
+    let in-loop = known .before in
+    let at-loop = in-loop .before in
+    let p = begun at-loop .pre in
+    let inv = at-loop .loop .inv in
+    record {
+      passed = counted (p .passed);
+      rows =
+          record {
+            first = p .first;
+            second = p .second;
+            wide = p .wide;
+            room = omega (arith, row-below (begun at-loop .args .n) (in-loop .loop-test .taken), p .room, inv .1);
+            few = omega (arith, p .few, in-loop .loop-test .taken);
+          };
+      long = gathered at-loop .collect .kept .1 .1 .1 .1 .1 .1 .0;
+      collected = gathered at-loop .collect .ensures;
+      filled = inv .2;
+    }
+
+loop-again : tie.Need-loop-again Inv-loop μ-loop
+loop-again c =
+    let row = filled c in
+    let in-loop = turn row in
+    let at-loop = in-loop .before in
+    let inv = at-loop .loop .inv in (
+      omega (arith, in-loop .loop-test .taken),
+      row .fill-row .kept .1 .1 .1 .1 .1 .1 .1 .1 .1 .0 ∙ inv .1,
+      filled-as (asked-in at-loop) (omega arith) (row .fill-row .ensures),
+    )
+
+returns : tie.Need-returns Inv-loop μ-loop
+returns c =
+    let at-loop = c .before in
+    let inv = at-loop .loop .inv in
+    filled-as (asked-in at-loop) (omega (arith, inv .0)) (inv .2)
+
+pub fill-rows-spec : {M : Type 1} → statement M
+fill-rows-spec =
+    tie.close
+    (tie.spec Inv-loop μ-loop (λ c. refl) collect-requires loop-holds slice-aggregate-fill-row fill-row-requires
+    (λ c. omega arith) (λ c. omega arith) loop-again (λ c. c .before .loop .inv .1) returns)

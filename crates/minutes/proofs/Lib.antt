@@ -1,0 +1,16 @@
+pub mod Latest
+pub mod OneArrow
+pub mod OneRow
+pub mod Any
+pub mod Count
+pub mod Tests
+pub mod Rounds
+pub mod Same
+pub mod Bounds
+pub mod SomeMakes
+pub mod AllMakes
+pub mod Wait
+pub mod PlainSome
+pub mod PlainAll
+pub mod Agree
+pub mod Beyond

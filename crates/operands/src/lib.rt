@@ -1,0 +1,1 @@
+// A row of marks that is written from the rows of a node's operands. No code.
