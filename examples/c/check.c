@@ -29,7 +29,7 @@ int main(int count, char **words) {
     doilystrand_outcome o = doilystrand_check(chart, chart_size, rule, rule_size, marks, DOILYSTRAND_MAX_MARKS,
                                               scratch, DOILYSTRAND_MAX_SCRATCH);
     if (o.number != 0) {
-        const char *which = o.number >= 10 && o.number <= 16 ? "rule" : "chart";
+        const char *which = (o.number >= 10 && o.number <= 16) || o.number == 63 ? "rule" : "chart";
         fprintf(stderr, "the %s is refused, number %u at place %u (include/refusals.txt says what for)\n", which,
                 (unsigned)o.number, (unsigned)o.place);
         return 1;

@@ -19,7 +19,7 @@ use Rattle.loops.specs.Refusal.{loopRow}
 use Rattle.room.specs.Room.{sizeFor, roomTable}
 use Rattle.judge.specs.Judge.{ownRows, judgeTable, judgeRefusal, marksAfter}
 use Rattle.judge.proofs.Chain.{own-iff}
-use Rattle.claim_demands.specs.Acceptable.{ShortBounds}
+use Rattle.rule.specs.Refusals.{ShortBounds}
 use Rattle.claim_demands.specs.FillsAlike.{FillsAlike}
 
 -- behind the same rows, tables that answer the same

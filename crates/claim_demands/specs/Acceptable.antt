@@ -2,24 +2,21 @@
 use mathlib.Core.Path.{_≡_}
 use mathlib.Core.Bool.{Bool, true}
 use mathlib.Core.List.{List}
-use Prim.Native.Nat.{ℕ, _*_, _≤_, _<_}
+use Prim.Native.Nat.{ℕ, _*_, _≤_}
 use lib.ListN.{length}
 use Rattle.outcome.specs.Refusal.{success}
 use Rattle.chart.specs.Bytes.{stateCount}
-use Rattle.rule.specs.Bytes.{nodeCount, nodeWords}
-use Rattle.rule.specs.Refusals.{ruleRefusal}
+use Rattle.rule.specs.Bytes.{nodeCount}
+use Rattle.rule.specs.Refusals.{ruleRefusal, ShortBounds}
 use Rattle.loops.specs.Accepted.{AcceptedChart}
 use Rattle.room.specs.Room.{sizeFor}
-
--- no node has "a bound above 255"
-abbrev pub ShortBounds : List ℕ → Type 0
-ShortBounds rule = (t : ℕ) → t < nodeCount rule → nodeWords rule t .c ≤ 255
 
 -- an accepted chart, an accepted rule, whose bounds go to 255 where minutes are counted, and room for the marks and for
 -- 4n numbers, or 256 × n
 pub record Acceptable (counting : Bool) (chart rule marks scratch : List ℕ) : Type 0 where
   pub chart-accepted : AcceptedChart chart
   pub rule-accepted : ruleRefusal rule ≡ success
+  -- not "a bound above 255"
   pub bounds : counting ≡ true → ShortBounds rule
   -- not "marks table under k × n bytes"
   pub table : nodeCount rule * stateCount chart ≤ length marks

@@ -9,7 +9,7 @@ use Rattle.chart.specs.Bytes.{stateCount}
 use Rattle.room.specs.Room.{scratchSize, minuteSize}
 use Rattle.call_check.specs.Check.{Checked}
 use Rattle.call_count.specs.Count.{Counted}
-use Rattle.claim_demands.specs.Acceptable.{ShortBounds}
+use Rattle.rule.specs.Refusals.{ShortBounds}
 
 -- the answers r of check and r′ of count, on a scratch each, and the marks that each leaves
 pub record Alike (chart rule scratch scratch′ : List ℕ) (r r′ : Outcome) (newMarks newMarks′ : List ℕ) : Type 0 where

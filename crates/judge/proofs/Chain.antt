@@ -4,7 +4,7 @@ use mathlib.Core.Logic.{_⊎_, _↔_, Iff·rfl, Iff·symm, Iff·trans, Iff·and}
 use mathlib.Core.Bool.{Bool, true, false, false≢true}
 use mathlib.Core.Bool.{not as neg}
 use mathlib.Core.List.{List, [], _∷_, _++_}
-use Prim.Native.Nat.{ℕ, _*_, _≤_, _<_}
+use Prim.Native.Nat.{ℕ, _*_, _≤_}
 use native.Mathlib.Omega.{arith}
 use lib.ListN.{length}
 use lib.Dec.{eqb}
@@ -21,7 +21,7 @@ use Rattle.outcome.proofs.Bounded.{each, number-each}
 use Rattle.chart.specs.Bytes.{stateCount}
 use Rattle.chart.specs.Refusals.{chartTable, chartRefusal}
 use Rattle.rule.specs.Bytes.{nodeCount, nodeWords}
-use Rattle.rule.specs.Refusals.{ruleTable, ruleRefusal, longBound, boundRow}
+use Rattle.rule.specs.Refusals.{ruleTable, ruleRefusal, longBound, ShortBounds, boundRow}
 use Rattle.rule.proofs.Accepted.{accepted}
 use Rattle.loops.specs.Accepted.{AcceptedChart}
 use Rattle.loops.specs.Refusal.{loopRow, acceptedTable}
@@ -41,7 +41,7 @@ module _ (rule : List ℕ) {b : Outcome} (f : b ≡ ruleRefusal rule) (w : b .nu
 pub record Admitted (counting : Bool) (chart rule marks scratch : List ℕ) : Type 0 where
   pub of-chart : chartRefusal chart .number ≡ 0
   pub of-rule : ruleRefusal rule .number ≡ 0
-  pub short : counting ≡ true → (t : ℕ) → t < nodeCount rule → nodeWords rule t .c ≤ 255
+  pub short : counting ≡ true → ShortBounds rule
   pub table : nodeCount rule * stateCount chart ≤ length marks
   pub room : sizeFor counting (stateCount chart) ≤ length scratch
 
@@ -49,7 +49,7 @@ pub record Admitted (counting : Bool) (chart rule marks scratch : List ℕ) : Ty
 pub own-iff :
     (counting : Bool) (rule : List ℕ) →
     Unmet (ownRows counting rule) ↔
-    (counting ≡ true → (t : ℕ) → t < nodeCount rule → nodeWords rule t .c ≤ 255)
+    (counting ≡ true → ShortBounds rule)
 unfolding boundRow
 own-iff true rule =
     let long : ℕ → Bool = λ t. longBound (nodeWords rule t) in (

@@ -1,4 +1,4 @@
--- The marks that check writes: rows of nodes as one list, and what their bytes tell.
+-- The marks that check and count write: rows of nodes as one list, and what their bytes tell.
 use mathlib.Core.Path.{_≡_, refl, sym, ap, subst, _∙_}
 use mathlib.Core.Logic.{_↔_}
 use mathlib.Core.Bool.{Bool, true, false, false≢true}

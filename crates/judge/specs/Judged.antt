@@ -9,8 +9,8 @@ use Rattle.outcome.specs.Refusal.{Row, first}
 use Rattle.chart.specs.Bytes.{stateCount}
 use Rattle.chart.specs.Refusals.{chartTable}
 use Rattle.chart.specs.Shape.{Passed}
-use Rattle.rule.specs.Bytes.{nodeCount, nodeWords}
-use Rattle.rule.specs.Refusals.{ruleTable, ruleRefusal}
+use Rattle.rule.specs.Bytes.{nodeCount}
+use Rattle.rule.specs.Refusals.{ruleTable, ruleRefusal, ShortBounds}
 use Rattle.loops.specs.Refusal.{loopRow}
 use Rattle.nodes.specs.Right.{numbersFor, Right}
 use Rattle.room.specs.Room.{roomTable, sizeFor}
@@ -31,7 +31,7 @@ pub record Judgeable (counting : Bool) (chart : List ℕ) (n m : ℕ) (rule : Li
   pub passed : Passed chart n m
   pub nodes : k ≡ nodeCount rule
   pub unrefused : ruleRefusal rule .number ≡ 0
-  pub short : counting ≡ true → (t : ℕ) → t < nodeCount rule → nodeWords rule t .c ≤ 255
+  pub short : counting ≡ true → ShortBounds rule
   pub table : k * n ≤ length marks
   pub size : length numbers ≡ numbersFor counting n
 

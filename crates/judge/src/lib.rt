@@ -52,7 +52,7 @@ fn input_refusal(
     room::room_refusal(n, k, size, marks, scratch)
 }
 
-// Every state gets a first hint, for the first engine.
+// For the first engine every state gets a first hint, of which nothing is promised; where minutes are counted nothing is done.
 fn prepare(counting: bool, chart: &[u8], n: usize, m: usize, numbers: &mut [u32])
     requires { ⌜ Passed (now chart) n m × (length (now numbers) ≡ numbersFor counting n) ⌝ }
 {

@@ -18,7 +18,7 @@ use Rattle.minutes.specs.Table.{latest, makes}
 use Rattle.minutes.proofs.Beyond.{makes-beyond}
 use Rattle.minutes.proofs.Latest.{latest-le, latest-local}
 use Rattle.minute_rows.specs.Numbers.{lastBelow, answer}
-use Rattle.minute_rows.specs.Filled.{Filled, Filling}
+use Rattle.minute_rows.specs.Filled.{RowsFilled, Filling}
 use Rattle.minute_rows.proofs.Local.{answer-local}
 
 -- a number below k is k only where it is chosen
@@ -34,7 +34,7 @@ module _
     (is-beyond : (s : ℕ) → w .beyond s ≡ flag beyond s)
     {minute : ℕ}
     {old new : List ℕ}
-    (filled : Filled G n w minute old)
+    (filled : RowsFilled G n w minute old)
     (stop : ℕ → Bool)
     (is-stop : (s : ℕ) → stopsAt w (suc minute) s ≡ stop s)
     (begun :

@@ -15,7 +15,7 @@ use Rattle.minutes.proofs.OneRow.{Quiet}
 use Rattle.minutes.proofs.Rounds.{filled}
 use Rattle.moves.specs.Moves.{capped}
 use Rattle.minute_rows.specs.Numbers.{answer}
-use Rattle.minute_rows.specs.Filled.{leadsOn, Filled, Filling}
+use Rattle.minute_rows.specs.Filled.{leadsOn, RowsFilled, Filling}
 use Rattle.minute_rows.proofs.Answers.{leads-answers}
 
 -- each arrow of the chart leads on only from where it is made
@@ -27,7 +27,7 @@ AllTried G w n minute beyond numbers =
 filled-states :
     {G : Chart} → Drawn G → {w : Task} {minute : ℕ} (beyond : List ℕ) {numbers : List ℕ} → minute < 256 →
     Filling G (states G) w minute beyond numbers → AllTried G w (states G) minute beyond numbers →
-    Filled G (states G) w (suc minute) numbers
+    RowsFilled G (states G) w (suc minute) numbers
 filled-states {G} dr {w} {minute} beyond {numbers} few f tried =
     record {
       last = λ m s l h.
@@ -57,9 +57,9 @@ filled-states {G} dr {w} {minute} beyond {numbers} few f tried =
 pub filled-row :
     {G : Chart} → Drawn G → {n : ℕ} → states G ≡ n → {w : Task} {minute : ℕ} (beyond : List ℕ) {numbers : List ℕ} →
     minute < 256 → Filling G n w minute beyond numbers → AllTried G w n minute beyond numbers →
-    Filled G n w (suc minute) numbers
+    RowsFilled G n w (suc minute) numbers
 filled-row {G} dr e {w} {minute} beyond {numbers} few =
     subst
     (λ n.
-    Filling G n w minute beyond numbers → AllTried G w n minute beyond numbers → Filled G n w (suc minute) numbers)
+    Filling G n w minute beyond numbers → AllTried G w n minute beyond numbers → RowsFilled G n w (suc minute) numbers)
     e (filled-states dr beyond few)

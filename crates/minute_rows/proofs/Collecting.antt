@@ -12,7 +12,7 @@ use Rattle.chart.specs.Bytes.{arrowCount, arrowWords, arrowOf, chartOf}
 use Rattle.chart.proofs.Reading.{drawn, has-states}
 use Rattle.minutes.specs.Makes.{goesAt}
 use Rattle.moves.specs.declared.Ends.{Ends}
-use Rattle.moves.specs.Moves.{cappedMost, capped, moveOf, Holds}
+use Rattle.moves.specs.Moves.{cappedMost, capped, moveOf, HasWord}
 use Rattle.minute_rows.specs.declared.Asked.{Asked}
 use Rattle.minute_rows.specs.Numbers.{taskIn}
 use Rattle.minute_rows.specs.Filled.{Word, Words, MinuteReady, FromChart}
@@ -36,7 +36,7 @@ module _
     {words p q beyond numbers : List ℕ}
     (ready : MinuteReady asked chart n minute ends words p q beyond numbers) where
   -- what is asked of a word is so of its arrow
-  pub held-word : (i : ℕ) → Holds ends i → Word n minute (moveOf (num words i)) beyond numbers
+  pub held-word : (i : ℕ) → HasWord ends i → Word n minute (moveOf (num words i)) beyond numbers
   held-word i h =
       let c = ready .collected .some i h in
       let a = arrowOf (arrowWords chart (c .0)) in
@@ -72,7 +72,7 @@ module _
       }
 
   held-chart :
-      (i : ℕ) → Holds ends i →
+      (i : ℕ) → HasWord ends i →
       (a : Arrow) × List·Memᴰ a (chartOf chart .arrows) ×
       (goesAt (taskIn asked p q beyond) (suc minute) (a .start) ≡ true) × (moveOf (num words i) ≡ capped a)
   held-chart i h =

@@ -17,7 +17,7 @@ use Rattle.moves.specs.declared.Ends.{Ends}
 use Rattle.moves.specs.Moves.{capped, moveOf, openIn}
 use Rattle.minute_rows.specs.declared.Asked.{Asked}
 use Rattle.minute_rows.specs.Numbers.{answer, taskIn, stopsBy}
-use Rattle.minute_rows.specs.Filled.{Filled, MinuteReady, rowBegun, leadsOn, Tried, Swept, Closed}
+use Rattle.minute_rows.specs.Filled.{RowsFilled, MinuteReady, rowBegun, leadsOn, Tried, Swept, Closed}
 use Rattle.minute_rows.proofs.Tasks.{stops-in, goes-in}
 use Rattle.minute_rows.proofs.Sweeping.{word-still, tried-later}
 use Rattle.minute_rows.proofs.Beginning.{filling-begun}
@@ -72,7 +72,7 @@ module _
       {r : Bool} {first mid new : List ℕ} →
       Entries (minute * n) n (rowBegun asked n minute p q beyond numbers) numbers first →
       Swept n minute (ends .back) 2048 words beyond r first mid → Closed n minute (ends .front) words beyond mid new →
-      Filled (chartOf chart) n (taskIn asked p q beyond) (suc minute) new
+      RowsFilled (chartOf chart) n (taskIn asked p q beyond) (suc minute) new
   row-filled begun swept closed =
       let G = chartOf chart in
       let dr = drawn (ready .passed) in

@@ -20,7 +20,7 @@ use Rattle.minute_rows.specs.declared.Asked.{Asked}
 use Rattle.minute_rows.specs.Numbers.{lastBelow, answer, taskIn, stopsBy}
 
 -- the rows of the first k numbers of minutes left are filled
-pub record Filled (G : Chart) (n : ℕ) (w : Task) (k : ℕ) (numbers : List ℕ) : Type 0 where
+pub record RowsFilled (G : Chart) (n : ℕ) (w : Task) (k : ℕ) (numbers : List ℕ) : Type 0 where
   pub last :
       (m s : ℕ) → m < k → s < n → num numbers (m * n + s) ≡ latest (λ r. makes (G .arrows) n w r s) (suc (suc m))
 
@@ -75,7 +75,7 @@ pub record MinuteReady
   pub rows : Rows n minute p q beyond numbers
   pub long : length words ≡ 2048
   pub collected : Collected chart (openIn (asked .met) p q) ends words
-  pub filled : Filled (chartOf chart) n (taskIn asked p q beyond) minute numbers
+  pub filled : RowsFilled (chartOf chart) n (taskIn asked p q beyond) minute numbers
 
 -- ── Inside a row ──
 

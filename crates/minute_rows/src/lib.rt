@@ -8,7 +8,7 @@ ghost use Rattle.base.specs.Entries.{Entries};
 ghost use Rattle.chart.specs.Bytes.{chartOf};
 ghost use Rattle.moves.specs.Moves.{arrowBy, moveOf};
 ghost use Rattle.minute_rows.specs.Numbers.{lastBelow, taskIn, stopsBy};
-ghost use Rattle.minute_rows.specs.Filled.{Filled, InRow, Rows, Word, Words, Ready, MinuteReady};
+ghost use Rattle.minute_rows.specs.Filled.{RowsFilled, InRow, Rows, Word, Words, Ready, MinuteReady};
 ghost use Rattle.minute_rows.specs.Filled.{rowBegun, leadsOn, Followed, Swept, Closed};
 use moves::Ends;
 use moves::Move;
@@ -31,7 +31,7 @@ fn stops(asked: Asked, p: bool, q: bool) -> bool
     met
 }
 
-// The last row below, in which s makes it.
+// The last row below in which s makes it, counted from 1; 0 if there is none.
 fn below(n: usize, minute: usize, s: usize, beyond: &[u8], numbers: &[u32]) -> u32
     requires { ⌜ InRow n minute s (now beyond) (now numbers) ⌝ }
     ensures { λ r. ⌜ r ≡ lastBelow n (now (beyond .entry)) (now (numbers .entry)) s (suc minute) ⌝ }
@@ -163,7 +163,7 @@ pub fn fill_row(
     numbers: &mut [u32],
 )
     requires { ⌜ MinuteReady asked (now chart) n minute ends (now words) (now p) (now q) (now beyond) (now numbers) ⌝ }
-    ensures { λ _. ⌜ Filled (chartOf (now (chart .entry))) n
+    ensures { λ _. ⌜ RowsFilled (chartOf (now (chart .entry))) n
         (taskIn asked (now (p .entry)) (now (q .entry)) (now (beyond .entry))) (suc minute) (now (numbers .exit)) ⌝ }
 {
     begin(asked, n, minute, p, q, beyond, numbers);
@@ -184,7 +184,7 @@ pub fn fill_rows(
     numbers: &mut [u32],
 )
     requires { ⌜ Ready count (now chart) n m (now p) (now q) (now beyond) (now numbers) ⌝ }
-    ensures { λ _. ⌜ Filled (chartOf (now (chart .entry))) n
+    ensures { λ _. ⌜ RowsFilled (chartOf (now (chart .entry))) n
         (taskIn asked (now (p .entry)) (now (q .entry)) (now (beyond .entry))) count (now (numbers .exit)) ⌝ }
 {
     let mut words = [0; moves::WORDS];

@@ -9,7 +9,8 @@ use Rattle.tctl.specs.Formula.{Bound, atMost, atLeast}
 use Rattle.minutes.specs.Makes.{Task}
 use Rattle.minutes.specs.Table.{makes}
 
--- the row of the bound: at most c has c minutes left, and is beyond after c; at least c is beyond from c on
+-- the row of the bound: at most c has c minutes left at first, and is beyond after c; at least c is beyond from c on, so
+-- that in row r there are r minutes still to wait
 abbrev pub rowOf : Bound → ℕ
 rowOf (atMost c) = suc c
 rowOf (atLeast c) = c

@@ -63,25 +63,25 @@ pub record Collectable (chart : List ℕ) (n m : ℕ) (p q words : List ℕ) : T
   pub room : length words ≡ 2048
 
 -- word i is in front, where those that can take no minute stand, or at the back
-abbrev pub Holds : Ends → ℕ → Type 0
-Holds ends i = (i < ends .front) ⊎ ((ends .back ≤ i) × (i < 2048))
+abbrev pub HasWord : Ends → ℕ → Type 0
+HasWord ends i = (i < ends .front) ⊎ ((ends .back ≤ i) × (i < 2048))
 
--- the words are those of the chart's first `count` arrows that are from states of which `goes` says yes, and those that
--- can take no minute are in front
-pub record CollectedTo (chart : List ℕ) (goes : ℕ → Bool) (count : ℕ) (ends : Ends) (words : List ℕ) : Type 0 where
+-- the words are those of the chart's arrows whose numbers `taken` says yes of, and those that can take no minute are in
+-- front
+pub record CollectedBy (chart : List ℕ) (taken : ℕ → Bool) (ends : Ends) (words : List ℕ) : Type 0 where
   pub front : ends .front ≤ ends .back
   pub back : ends .back ≤ 2048
   pub some :
-      (i : ℕ) → Holds ends i →
-      (j : ℕ) × (j < count) × (goes (arrowWords chart j .start) ≡ true) ×
+      (i : ℕ) → HasWord ends i →
+      (j : ℕ) × (j < arrowCount chart) × (taken j ≡ true) ×
       (moveOf (getD words i 0) ≡ capped (arrowOf (arrowWords chart j)))
   pub instant :
-      (j : ℕ) → j < count → goes (arrowWords chart j .start) ≡ true → arrowWords chart j .fewest ≡ 0 →
+      (j : ℕ) → j < arrowCount chart → taken j ≡ true → arrowWords chart j .fewest ≡ 0 →
       (i : ℕ) × (i < ends .front) × (moveOf (getD words i 0) ≡ capped (arrowOf (arrowWords chart j)))
   pub later :
-      (j : ℕ) → j < count → goes (arrowWords chart j .start) ≡ true → 1 ≤ arrowWords chart j .fewest →
+      (j : ℕ) → j < arrowCount chart → taken j ≡ true → 1 ≤ arrowWords chart j .fewest →
       (i : ℕ) × (ends .back ≤ i) × (i < 2048) × (moveOf (getD words i 0) ≡ capped (arrowOf (arrowWords chart j)))
 
--- the same of all its arrows
+-- they are those of the arrows from states of which `goes` says yes
 abbrev pub Collected : List ℕ → (ℕ → Bool) → Ends → List ℕ → Type 0
-Collected chart goes ends words = CollectedTo chart goes (arrowCount chart) ends words
+Collected chart goes ends words = CollectedBy chart (λ j. goes (arrowWords chart j .start)) ends words

@@ -5,9 +5,15 @@ ghost use mathlib.Core.Path.{_≡_};
 ghost use Prim.Native.Nat.{_≤_, _<_, min};
 ghost use lib.ListN.{length};
 ghost use Rattle.chart.specs.Bytes.{arrowOf};
+ghost use Rattle.chart.specs.Shape.{Passed};
 ghost use Rattle.arrows.specs.Read.{Low};
+ghost use Rattle.arrow_links.specs.Linked.{Linked};
 ghost use Rattle.moves.specs.Moves.{capped, moveOf, arrowBy, isOpen, openIn, WithArrow, Collectable, Collected};
+ghost use Rattle.moves.specs.Turns.{Ready, WithState};
 use chart::ArrowWords;
+
+// The most states of a chart.
+const STATES: usize = 256;
 
 // The most arrows of a chart.
 pub const WORDS: usize = 2048;
@@ -45,7 +51,7 @@ fn capped_minutes(minutes: u32) -> u64
     minutes as u64
 }
 
-// The word of an arrow.
+// The word of an arrow: from below start and end of 8 bits, fewest and most of 9.
 fn packed(a: ArrowWords) -> u64
     requires { ⌜ Low a ⌝ }
     ensures { λ r. ⌜ moveOf r ≡ capped (arrowOf a) ⌝ }
@@ -87,7 +93,33 @@ fn with_arrow(a: ArrowWords, ends: Ends, words: &mut [u64]) -> Ends
     Ends { front, back: last }
 }
 
-// The arrows from states where the until is open, by the rows p and q of its operands.
+// The words with the arrows of one state more, from its lowest on.
+fn with_state(
+    chart: &[u8],
+    n: usize,
+    m: usize,
+    firsts: &[u32],
+    nexts: &[u32],
+    s: usize,
+    ends: Ends,
+    words: &mut [u64],
+) -> Ends
+    requires { ⌜ Passed (now chart) n m × Linked (now chart) n m 0 (now firsts) (now nexts) × (s < n) ×
+        Ready (now chart) s ends (now words) ⌝ }
+    ensures { λ r. ⌜ WithState (now (chart .entry)) s ends r (now (words .entry)) (now (words .exit)) ⌝ }
+{
+    let mut grown = ends;
+    let mut i = firsts[s] as usize;
+    while i < m {
+        let a = arrows::arrow(chart, n, i);
+        grown = with_arrow(a, grown, words);
+        i = nexts[i] as usize;
+    }
+    grown
+}
+
+// The arrows from states where the until is open, by the rows p and q of its operands; state by state, since the
+// sweeps over the words are faster where arrows from one state stand together.
 pub fn collect(
     met: bool,
     chart: &[u8],
@@ -101,18 +133,19 @@ pub fn collect(
     ensures { λ r. ⌜ Collected (now (chart .entry)) (openIn met (now (p .entry)) (now (q .entry))) r
         (now (words .exit)) ⌝ }
 {
+    let mut firsts = [0; STATES];
+    let mut nexts = [0; WORDS];
+    arrow_links::link(chart, n, m, &mut firsts, &mut nexts);
     let mut ends = Ends {
         front: 0,
         back: WORDS,
     };
-    let mut i = 0;
-    while i < m {
-        let a = arrows::arrow(chart, n, i);
-        let s = a.start;
+    let mut s = 0;
+    while s < n {
         if is_open(met, p[s] == 1, q[s] == 1) {
-            ends = with_arrow(a, ends, words);
+            ends = with_state(chart, n, m, &firsts, &nexts, s, ends, words);
         }
-        i += 1;
+        s += 1;
     }
     ends
 }

@@ -10,7 +10,7 @@ use Rattle.model.specs.Marks.{bit}
 use Rattle.chart.specs.Bytes.{chartOf}
 use Rattle.chart.specs.Shape.{Passed}
 use Rattle.rule.specs.Bytes.{nodeCount, nodeWords}
-use Rattle.rule.specs.Refusals.{ruleRefusal}
+use Rattle.rule.specs.Refusals.{ruleRefusal, ShortBounds}
 use Rattle.rule.specs.Formula.{formulaAt}
 
 -- how many numbers are worked on: one for each state, or, where minutes are counted, one for each minute from 0 to 255
@@ -30,7 +30,7 @@ pub record Workable (counting : Bool) (chart : List ℕ) (n m t : ℕ) (marks nu
 pub record AcceptedNode (counting : Bool) (rule : List ℕ) (t : ℕ) : Type 0 where
   pub unrefused : ruleRefusal rule .number ≡ 0
   pub inside : t < nodeCount rule
-  pub short : counting ≡ true → (u : ℕ) → u < nodeCount rule → nodeWords rule u .c ≤ 255
+  pub short : counting ≡ true → ShortBounds rule
 
 -- row u holds the marks of node u
 abbrev pub Right : List ℕ → ℕ → List ℕ → ℕ → List ℕ → Type 0

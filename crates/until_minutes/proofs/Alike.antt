@@ -15,7 +15,7 @@ use Rattle.minutes.proofs.Latest.{latest-local}
 use Rattle.minutes.proofs.Same.{SameTask, makes-same}
 use Rattle.moves.specs.declared.Ends.{Ends}
 use Rattle.moves.specs.Moves.{Collected}
-use Rattle.minute_rows.specs.Filled.{Filled}
+use Rattle.minute_rows.specs.Filled.{RowsFilled}
 
 module _ {chart : List ℕ} {n m : ℕ} (passed : Passed chart n m) where
   pub joins : Joins n (chartOf chart .arrows)
@@ -25,8 +25,8 @@ module _ {chart : List ℕ} {n m : ℕ} (passed : Passed chart n m) where
 
   -- rows that are filled for one task are so for another that agrees below n: both make the same
   pub filled-same :
-      {w w′ : Task} → SameTask n w w′ → {k : ℕ} {numbers : List ℕ} → Filled (chartOf chart) n w k numbers →
-      Filled (chartOf chart) n w′ k numbers
+      {w w′ : Task} → SameTask n w w′ → {k : ℕ} {numbers : List ℕ} → RowsFilled (chartOf chart) n w k numbers →
+      RowsFilled (chartOf chart) n w′ k numbers
   filled-same {w} {w′} same f =
       let arrows = chartOf chart .arrows in
       record {

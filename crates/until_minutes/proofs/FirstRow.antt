@@ -20,12 +20,12 @@ use Rattle.operands.proofs.Rows.{written-as}
 use Rattle.minutes.specs.Table.{latest}
 use Rattle.minutes.proofs.Latest.{latest-iff}
 use Rattle.minutes.proofs.Tests.{decide-same}
-use Rattle.minute_rows.specs.Filled.{Filled}
+use Rattle.minute_rows.specs.Filled.{RowsFilled}
 use Rattle.until_minutes.specs.Minutes.{plainAsked, taskBy, makesBy, Waited}
 use Rattle.until_minutes.proofs.Last.{latest-says}
 
 module _ (all : Bool) (chart : List ℕ) (n t : ℕ) (w : NodeWords) (marks : List ℕ) {numbers : List ℕ}
-    (filled : Filled (chartOf chart) n (taskBy (plainAsked all) n t w marks) 1 numbers) where
+    (filled : RowsFilled (chartOf chart) n (taskBy (plainAsked all) n t w marks) 1 numbers) where
   abbrev made : ℕ → ℕ → Bool
   made s r = makesBy (plainAsked all) chart n t w marks r s
 

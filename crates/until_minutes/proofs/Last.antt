@@ -21,7 +21,7 @@ use Rattle.fill.specs.Fill.{passesLimit}
 use Rattle.minutes.specs.Makes.{Task}
 use Rattle.minutes.specs.Table.{latest, makes}
 use Rattle.minutes.proofs.Latest.{latest-here, latest-not, latest-le}
-use Rattle.minute_rows.specs.Filled.{Filled}
+use Rattle.minute_rows.specs.Filled.{RowsFilled}
 use Rattle.until_minutes.specs.Minutes.{MinutesLent, markOf}
 use Rattle.until_minutes.proofs.Parts.{part, part-at}
 
@@ -69,7 +69,7 @@ latest-says all f k few = ap (passesLimit (neg all) k) value ∙ turn (true-or-f
 -- the last of filled rows, as it is lent
 pub last-says :
     (all : Bool) {G : Chart} {n : ℕ} {w : Task} {count : ℕ} {numbers : List ℕ} → 1 ≤ count → count ≤ 256 →
-    Filled G n w count numbers →
+    RowsFilled G n w count numbers →
     Same n (λ s. passesLimit (neg all) count (valueOf (num (part n numbers (count - 1)) s)))
     (λ s. markOf all (makes (G .arrows) n w count s))
 last-says all {G} {n} {w} {count} {numbers} some few filled s l =

@@ -53,7 +53,7 @@ abbrev pub openBy : ℕ → NodeWords → List ℕ → ℕ → Bool
 openBy n w marks s = isOpen true (mark n marks (w .a) s) (mark n marks (w .b) s)
 
 -- a table of marks that holds row t, two operands below it, and a word for every arrow
-pub record Collectible (chart : List ℕ) (n m t : ℕ) (w : NodeWords) (marks words : List ℕ) : Type 0 where
+pub record MarksCollectable (chart : List ℕ) (n m t : ℕ) (w : NodeWords) (marks words : List ℕ) : Type 0 where
   pub passed : Passed chart n m
   pub table : t * n + n ≤ length marks
   pub operands : OperandsBelow t w
@@ -70,7 +70,7 @@ pub record WaitReady
   pub long : length words ≡ 2048
   pub collected : Collected chart (openBy n w marks) ends words
 
--- it was waited once: row t says who makes it with no minute left, and r whether it said so before
+-- it was waited once: row t says who makes it with no minute left, and r says yes only where it said so before
 pub record Waited (all : Bool) (chart : List ℕ) (n t : ℕ) (w : NodeWords) (r : Bool) (old new : List ℕ) : Type 0 where
   pub written : RowWritten n t (makesBy (plainAsked all) chart n t w old 1) old new
   pub still : r ≡ true → (s : ℕ) → s < n → makesBy (plainAsked all) chart n t w old 1 s ≡ mark n old t s

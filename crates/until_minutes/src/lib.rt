@@ -14,9 +14,9 @@ ghost use Rattle.fill.specs.Written.{RowWritten};
 ghost use Rattle.operands.specs.FromOperands.{FromOperands};
 ghost use Rattle.minutes.specs.Untils.{plain, counted};
 ghost use Rattle.moves.specs.Moves.{Collected};
-ghost use Rattle.minute_rows.specs.Filled.{Filled};
+ghost use Rattle.minute_rows.specs.Filled.{RowsFilled};
 ghost use Rattle.until_minutes.specs.Minutes.{MinutesLent, Says, plainAsked, taskBy, makesBy, markOf, openBy};
-ghost use Rattle.until_minutes.specs.Minutes.{Collectible, WaitReady, Waited};
+ghost use Rattle.until_minutes.specs.Minutes.{MarksCollectable, WaitReady, Waited};
 use fill::Connective;
 use minute_rows::Asked;
 use moves::Ends;
@@ -34,7 +34,7 @@ fn begin(all: bool, n: usize, t: usize, marks: &mut [u8])
     fill::fill(Connective::No, n, t, t, t, marks);
 }
 
-// Row t says who makes it with no minute left.
+// Yes only where row t says who makes it with no minute left.
 fn same(n: usize, t: usize, marks: &[u8], numbers: &[u32]) -> bool
     requires { ⌜ (t * n + n ≤ length (now marks)) × (n ≤ length (now numbers)) ⌝ }
     ensures { λ r. ⌜ (r ≡ true → (s : ℕ) → s < n →
@@ -64,7 +64,7 @@ fn first_row(
     numbers: &mut [u32],
 )
     requires { ⌜ WaitReady (now chart) n t node ends (now words) (now marks) (now numbers) ⌝ }
-    ensures { λ _. ⌜ Filled (chartOf (now (chart .entry))) n (taskBy (plainAsked all) n t node (now (marks .entry))) 1
+    ensures { λ _. ⌜ RowsFilled (chartOf (now (chart .entry))) n (taskBy (plainAsked all) n t node (now (marks .entry))) 1
         (now (numbers .exit)) ⌝ }
 {
     let left = node.a * n;
@@ -85,7 +85,7 @@ fn first_row(
     );
 }
 
-// One wait: row t becomes who makes it with no minute left. Whether it said so before.
+// One wait: row t becomes who makes it with no minute left. Yes only where it said so before.
 fn wait_once(
     all: bool,
     chart: &[u8],
@@ -116,7 +116,7 @@ fn collect_open(
     marks: &[u8],
     words: &mut [u64],
 ) -> Ends
-    requires { ⌜ Collectible (now chart) n m t node (now marks) (now words) ⌝ }
+    requires { ⌜ MarksCollectable (now chart) n m t node (now marks) (now words) ⌝ }
     ensures { λ r. ⌜ Collected (now (chart .entry)) (openBy n node (now (marks .entry))) r (now (words .exit)) ⌝ }
 {
     let left = node.a * n;
@@ -173,7 +173,7 @@ fn fill_rows(
     numbers: &mut [u32],
 )
     requires { ⌜ MinutesLent (now chart) n m t node (now marks) (now numbers) × (count ≤ 256) ⌝ }
-    ensures { λ _. ⌜ Filled (chartOf (now (chart .entry))) n (taskBy asked n t node (now (marks .entry))) count
+    ensures { λ _. ⌜ RowsFilled (chartOf (now (chart .entry))) n (taskBy asked n t node (now (marks .entry))) count
         (now (numbers .exit)) ⌝ }
 {
     let left = node.a * n;

@@ -12,14 +12,14 @@ use Rattle.chart.specs.Bytes.{chartOf}
 use Rattle.chart.proofs.Reading.{counted}
 use Rattle.minutes.specs.Makes.{Task}
 use Rattle.minute_rows.specs.Numbers.{taskIn}
-use Rattle.minute_rows.specs.Filled.{Filled}
+use Rattle.minute_rows.specs.Filled.{RowsFilled}
 use Rattle.minute_rows.proofs.fill_rows.Statement.{statement}
 use Rattle.minute_rows.proofs.fill_rows.Tie as tie
 
 abbrev Inv-loop : tie.InvT-loop
 Inv-loop asked count chart n m p q beyond numbers₀ words ends minute₀ numbers minute =
     (minute ≤ count) × (length numbers ≡ length numbers₀) ×
-    Filled (chartOf chart) n (taskIn asked p q beyond) minute numbers
+    RowsFilled (chartOf chart) n (taskIn asked p q beyond) minute numbers
 
 abbrev μ-loop : tie.MeasureT-loop
 μ-loop asked count chart n m p q beyond numbers₀ words ends minute₀ numbers minute = count - minute
@@ -42,9 +42,9 @@ begun c = start (gathered c .before)
 
 -- so many rows
 filled-as :
-    {G : Chart} {n : ℕ} (w : Task) {k j : ℕ} {numbers : List ℕ} → k ≡ j → Filled G n w k numbers →
-    Filled G n w j numbers
-filled-as {G} {n} w {numbers = numbers} e = subst (λ k. Filled G n w k numbers) e
+    {G : Chart} {n : ℕ} (w : Task) {k j : ℕ} {numbers : List ℕ} → k ≡ j → RowsFilled G n w k numbers →
+    RowsFilled G n w j numbers
+filled-as {G} {n} w {numbers = numbers} e = subst (λ k. RowsFilled G n w k numbers) e
 
 -- the task
 abbrev asked-in : tie.At-loop Inv-loop μ-loop → Task
