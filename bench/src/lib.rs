@@ -2,6 +2,7 @@
 
 pub mod bytes;
 pub mod counted;
+pub mod deep;
 pub mod drawn;
 pub mod families;
 pub mod instant;

@@ -6,18 +6,24 @@
 //! `peer`, which check, or one of these with `-show` or `-count`, or `plain-count`, the plainer of count's two peers.
 //! `bench --files CHART RULE FOLDER` writes one input for the desk program. `bench --names` prints the families,
 //! `bench --small` chart and rule of each small input, `bench --shown` those of each run that is shown,
-//! `bench --counted` those of count whose instructions are counted.
+//! `bench --counted` those of count whose instructions are counted. `bench --size FILE...` prints the bytes of an archive
+//! or a program, `bench --stack ARCHIVE` the stack of each exported call; the archive is the one that is linked here.
 
 mod agreement;
 mod count;
 mod count_agreement;
 mod count_tables;
+mod image;
 mod input;
 mod library_count;
 mod library_show;
+mod machine;
+mod painted;
 mod ratios;
 mod report;
+mod runs;
 mod show;
+mod stack;
 mod timing;
 mod worst;
 
@@ -30,6 +36,8 @@ use timing::Plan;
 
 const USE: &str = "use: bench [--quick | --count | --agree | --names | --small | --shown | --counted]
      bench --one CHART RULE library|peer|library-show|peer-show|library-count|plain-count|peer-count COUNT
+     bench --size FILE...
+     bench --stack ARCHIVE
      bench --files CHART RULE FOLDER";
 
 /// The plan of the tables.
@@ -54,6 +62,8 @@ fn run(words: &[&str]) -> Result<(), String> {
         ["--count"] => report::count(&WHOLE),
         ["--agree"] => agreement::agreement(),
         ["--one", chart, rule, program, count] => one(chart, rule, program, count),
+        ["--size", files @ ..] => image::sizes(files),
+        ["--stack", archive] => image::stacks(archive),
         ["--files", chart, rule, folder] => files(chart, rule, folder),
         ["--names"] => {
             println!("{}", bench::families::NAMES.join("\n"));

@@ -237,15 +237,18 @@ fn at_least(
     ensures { λ _. ⌜ FromOperands (counted all (atLeast (node .c))) (now (chart .entry)) n t node
         (now (marks .entry)) (now (marks .exit)) ⌝ }
 {
-    plain_row(all, chart, n, m, t, node, marks, numbers);
-    if node.c != 0 {
-        let asked = Asked { all, met: false };
-        last_row(asked, node.c as usize, chart, n, m, t, node, marks, numbers);
+    if node.c == 0 {
+        if all {
+            plain_row(true, chart, n, m, t, node, marks, numbers);
+            fill::fill(Connective::Not, n, t, t, t, marks);
+            return;
+        }
+        plain_row(false, chart, n, m, t, node, marks, numbers);
         return;
     }
-    if all {
-        fill::fill(Connective::Not, n, t, t, t, marks);
-    }
+    plain_row(all, chart, n, m, t, node, marks, numbers);
+    let asked = Asked { all, met: false };
+    last_row(asked, node.c as usize, chart, n, m, t, node, marks, numbers);
 }
 
 // An E-until, or an A-until, by its kind of bound and c.

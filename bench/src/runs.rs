@@ -1,0 +1,138 @@
+//! The stack that each exported call takes in runs on the largest charts and the deepest rules.
+
+use crate::count::ROWS;
+use crate::input::Buffers;
+use crate::painted::taken;
+use crate::show::POSITIONS;
+use bench::{counted, deep, families, maps, shown};
+use std::collections::BTreeMap;
+
+// Only where they stand is asked for here; what they take, `include/doilystrand.h` says.
+extern "C" {
+    fn doilystrand_check();
+    fn doilystrand_count();
+    fn doilystrand_show();
+    fn doilystrand_kind_of_rule();
+    fn doilystrand_map_check();
+    fn doilystrand_row();
+    fn doilystrand_arrow();
+}
+
+/// States and arrows of the largest chart.
+const STATES: usize = 256;
+const ARROWS: usize = 2048;
+
+/// The most bytes that the runs of each call took.
+pub type Most = BTreeMap<&'static str, usize>;
+
+/// The answer of a call to these arguments: none but the calls' own.
+fn run(most: &mut Most, name: &'static str, function: unsafe extern "C" fn(), arguments: &[&[usize]]) -> u32 {
+    // Safety: a slice is handed over as its pointer and its length, and outlives the call.
+    let taken = unsafe { taken(function as *const (), &arguments.concat()) };
+    let known = most.entry(name).or_default();
+    *known = taken.bytes.max(*known);
+    taken.answer as u32
+}
+
+fn read(bytes: &[u8]) -> [usize; 2] {
+    [bytes.as_ptr() as usize, bytes.len()]
+}
+
+fn lent<T>(part: &mut [T]) -> [usize; 2] {
+    [part.as_mut_ptr() as usize, part.len()]
+}
+
+/// What was refused for another reason would not have gone all the way down.
+fn expect(name: &str, number: u32, expected: u32) -> Result<(), String> {
+    if number == expected {
+        Ok(())
+    } else {
+        Err(format!("{name} answers {number} and not {expected} where its stack is looked at"))
+    }
+}
+
+/// Check or count, which are handed the same, of a chart with each of the deepest rules.
+fn marks(
+    most: &mut Most,
+    name: &'static str,
+    call: unsafe extern "C" fn(),
+    chart: &[u8],
+    c: u16,
+) -> Result<(), String> {
+    let mut buffers = Buffers::with_scratch(ROWS * STATES);
+    for rule in deep::rules(c) {
+        let tables = [lent(&mut buffers.marks), lent(&mut buffers.scratch)].concat();
+        expect(name, run(most, name, call, &[&read(chart), &read(&rule), &tables]), 0)?;
+    }
+    Ok(())
+}
+
+fn checks(most: &mut Most) -> Result<(), String> {
+    families::NAMES.iter().try_for_each(|family| {
+        let chart = families::chart(family, STATES, ARROWS).ok_or(format!("no chart {family}"))?;
+        marks(most, "doilystrand_check", doilystrand_check, &chart, u16::MAX)
+    })
+}
+
+fn counts(most: &mut Most) -> Result<(), String> {
+    counted::CHARTS.iter().try_for_each(|chart| {
+        let chart = counted::chart(chart).ok_or(format!("no chart {chart}"))?;
+        marks(most, "doilystrand_count", doilystrand_count, &chart, 255)
+    })
+}
+
+/// A run of each sort, and each of the deepest rules, which has gone all the way down before it is refused with 60.
+fn shows(most: &mut Most) -> Result<(), String> {
+    let (name, mut buffers) = ("doilystrand_show", Buffers::with_scratch(POSITIONS * STATES));
+    let mut output = vec![0; 6 * POSITIONS];
+    let mut show = |chart: &[u8], rule: &[u8], asked: [usize; 2]| {
+        let tables = [lent(&mut buffers.marks), lent(&mut buffers.scratch), asked, lent(&mut output)];
+        run(most, name, doilystrand_show, &[&read(chart), &read(rule), &tables.concat()])
+    };
+    for (chart, rule) in shown::ROWS {
+        let row = shown::input(chart, rule).ok_or(format!("no run is shown for {chart} with {rule}"))?;
+        expect(name, show(&row.chart, &row.rule, [row.node, row.state]), 0)?;
+        for rule in deep::rules(u16::MAX) {
+            expect(name, show(&row.chart, &rule, [0, 0]), 60)?;
+        }
+    }
+    Ok(())
+}
+
+fn map_checks(most: &mut Most) -> Result<(), String> {
+    let name = "doilystrand_map_check";
+    for input in maps::NAMES {
+        let input = maps::input(input).ok_or(format!("no map input {input}"))?;
+        let charts = [read(&input.detail), read(&input.overview), read(&input.map)];
+        expect(name, run(most, name, doilystrand_map_check, &[&charts.concat()]), 0)?;
+    }
+    Ok(())
+}
+
+/// Those that are handed a rule or a chart alone, and the row.
+fn others(most: &mut Most) -> Result<(), String> {
+    for rule in deep::rules(u16::MAX) {
+        let name = "doilystrand_kind_of_rule";
+        expect(name, run(most, name, doilystrand_kind_of_rule, &[&read(&rule)]), 0)?;
+    }
+    run(most, "doilystrand_row", doilystrand_row, &[&[64 * STATES, 64 * STATES, 1, STATES, 63]]);
+    let chart = families::chart("random", STATES, ARROWS).ok_or("no chart random")?;
+    // The answer is too long for registers: where it is to stand is handed over first.
+    let mut arrow = [0usize; 4];
+    run(most, "doilystrand_arrow", doilystrand_arrow, &[&[arrow.as_mut_ptr() as usize], &read(&chart), &[ARROWS - 1]]);
+    if arrow[0] as u32 == 1 {
+        Ok(())
+    } else {
+        Err("doilystrand_arrow finds no arrow where its stack is looked at".to_string())
+    }
+}
+
+pub fn runs() -> Result<Most, String> {
+    let mut most = Most::new();
+    checks(&mut most)?;
+    counts(&mut most)?;
+    shows(&mut most)?;
+    map_checks(&mut most)?;
+    others(&mut most)?;
+    Ok(most)
+}

@@ -1,0 +1,237 @@
+//! The most stack that a function takes, whatever it is handed: the frames along its deepest way down.
+//!
+//! The depth at every instruction follows from those before it. A function that can come to itself again takes a node's
+//! number, which falls, so there are at most as many frames of it at a time as a rule has nodes.
+
+use crate::machine::{Does, Functions, Step};
+use std::collections::{BTreeMap, BTreeSet};
+
+/// The most nodes of a rule.
+const NODES: usize = 64;
+
+/// The address that a call leaves on the stack.
+const ADDRESS: i64 = 8;
+
+/// The bytes of stack at each step, from where the function was entered; none where nothing leads to.
+fn depths(steps: &[Step]) -> Result<Vec<Option<i64>>, String> {
+    let places: BTreeMap<u64, usize> = steps.iter().enumerate().map(|(i, step)| (step.at, i)).collect();
+    let mut depths = vec![None; steps.len()];
+    let mut open = vec![(0, ADDRESS)];
+    while let Some((i, depth)) = open.pop().or_else(|| chosen(steps, &depths)) {
+        let Some(step) = steps.get(i) else { return Err("its last instruction goes on".to_string()) };
+        match depths[i] {
+            Some(known) if known == depth => continue,
+            Some(known) => return Err(format!("at {:x} the stack has {known} bytes or {depth}", step.at)),
+            None => depths[i] = Some(depth),
+        }
+        open.extend(following(step, i, depth, &places)?);
+    }
+    Ok(depths)
+}
+
+/// Where a step goes on, and how deep.
+fn following(step: &Step, i: usize, depth: i64, places: &BTreeMap<u64, usize>) -> Result<Vec<(usize, i64)>, String> {
+    let next = (i + 1, depth);
+    match &step.does {
+        Does::Returns | Does::Leaves { always: true, .. } | Does::Chooses => Ok(vec![]),
+        Does::Grows(by) => Ok(vec![(i + 1, depth + by)]),
+        Does::Jumps { to, always } => {
+            let to = *places.get(to).ok_or_else(|| format!("at {:x} it jumps out of the function", step.at))?;
+            Ok(if *always { vec![(to, depth)] } else { vec![(to, depth), next] })
+        }
+        Does::Leaves { .. } | Does::Uses(_) | Does::Calls(_) | Does::Pads | Does::Nothing => Ok(vec![next]),
+    }
+}
+
+/// The first step that nothing has led to, where a jump to one of several places may: it is as deep as that jump.
+fn chosen(steps: &[Step], depths: &[Option<i64>]) -> Option<(usize, i64)> {
+    let choice = steps.iter().position(|step| step.does == Does::Chooses)?;
+    let unmet = (0..steps.len()).find(|&i| depths[i].is_none() && steps[i].does != Does::Pads)?;
+    Some((unmet, depths[choice]?))
+}
+
+/// The bytes that a function takes by itself, and the functions that it calls, each with the depth of the call.
+struct Frame<'a> {
+    own: i64,
+    calls: Vec<(&'a str, i64)>,
+}
+
+fn frame(steps: &[Step]) -> Result<Frame<'_>, String> {
+    let mut frame = Frame { own: ADDRESS, calls: Vec::new() };
+    for (step, depth) in steps.iter().zip(depths(steps)?) {
+        let depth = match (depth, &step.does) {
+            (Some(depth), _) => depth,
+            (None, Does::Pads) => continue,
+            (None, _) => return Err(format!("nothing leads to {:x}", step.at)),
+        };
+        frame.own = frame.own.max(depth);
+        match &step.does {
+            Does::Uses(below) => frame.own = frame.own.max(depth + below),
+            Does::Calls(to) => frame.calls.push((to, depth)),
+            // The frame is gone by then, and the address is the one that this function returns to.
+            Does::Leaves { to, .. } => frame.calls.push((to, depth - ADDRESS)),
+            _ => {}
+        }
+    }
+    Ok(frame)
+}
+
+/// The frames on the way down, from the highest, each with its function and its bytes.
+#[derive(Clone)]
+pub struct Way<'a> {
+    pub bytes: i64,
+    frames: Vec<(&'a str, i64)>,
+}
+
+impl<'a> Way<'a> {
+    fn of(name: &'a str, bytes: i64) -> Self {
+        Way { bytes, frames: vec![(name, bytes)] }
+    }
+
+    fn under(self, name: &'a str, bytes: i64) -> Self {
+        // A function that has left for its last call has no frame.
+        let own = (bytes > 0).then_some((name, bytes));
+        Way { bytes: self.bytes + bytes, frames: own.into_iter().chain(self.frames).collect() }
+    }
+
+    /// In words: equal frames are told once, where the first of them stands.
+    pub fn told(&self) -> String {
+        let mut told: Vec<((&str, i64), usize)> = Vec::new();
+        for &frame in &self.frames {
+            match told.iter_mut().find(|(known, _)| *known == frame) {
+                Some((_, count)) => *count += 1,
+                None => told.push((frame, 1)),
+            }
+        }
+        let words = told.iter().map(|&((name, bytes), count)| match count {
+            1 => format!("{name} {bytes}"),
+            _ => format!("{name} {count} × {bytes}"),
+        });
+        words.collect::<Vec<_>>().join(", ")
+    }
+}
+
+/// The deepest ways that are known, by function and calls that go round.
+type Known<'a> = BTreeMap<(&'a str, usize), Way<'a>>;
+
+/// The frames of a library, and what each function can come to.
+pub struct Stacks<'a> {
+    frames: BTreeMap<&'a str, Frame<'a>>,
+    reached: BTreeMap<&'a str, BTreeSet<&'a str>>,
+}
+
+fn reached<'a>(from: &str, frames: &BTreeMap<&'a str, Frame<'a>>) -> BTreeSet<&'a str> {
+    let mut met = BTreeSet::new();
+    let mut open = vec![from];
+    while let Some(name) = open.pop() {
+        for &(to, _) in frames.get(name).map_or(&[][..], |frame| &frame.calls) {
+            if met.insert(to) {
+                open.push(to);
+            }
+        }
+    }
+    met
+}
+
+impl<'a> Stacks<'a> {
+    /// Calls of functions whose names begin so are left out: what is handed down never leads to them.
+    pub fn of(functions: &'a Functions, unmet: &[&str]) -> Result<Self, String> {
+        let mut frames = BTreeMap::new();
+        for (name, steps) in functions {
+            let mut frame = frame(steps).map_err(|why| format!("{name}: {why}"))?;
+            frame.calls.retain(|(to, _)| !unmet.iter().any(|beginning| to.starts_with(beginning)));
+            frames.insert(name.as_str(), frame);
+        }
+        let reached = frames.keys().map(|&name| (name, reached(name, &frames))).collect();
+        Ok(Stacks { frames, reached })
+    }
+
+    /// Whether a call goes round: the one that is called can come to its caller again.
+    fn goes_round(&self, from: &str, to: &str) -> bool {
+        self.reached.get(to).is_some_and(|reached| reached.contains(from))
+    }
+
+    /// The deepest way from a function, with so many calls that go round still to come.
+    fn deepest(&self, name: &'a str, rounds: usize, known: &mut Known<'a>) -> Way<'a> {
+        // What the library does not have is C's own (memset), and counts with its address alone.
+        let Some(frame) = self.frames.get(name) else { return Way::of(name, ADDRESS) };
+        if let Some(way) = known.get(&(name, rounds)) {
+            return way.clone();
+        }
+        let mut most = Way::of(name, frame.own);
+        for &(to, depth) in &frame.calls {
+            let left = if self.goes_round(name, to) { rounds.checked_sub(1) } else { Some(NODES - 1) };
+            let Some(left) = left else { continue };
+            let below = self.deepest(to, left, known);
+            if depth + below.bytes > most.bytes {
+                most = below.under(name, depth);
+            }
+        }
+        known.insert((name, rounds), most.clone());
+        most
+    }
+
+    /// The deepest way from a function of the library.
+    pub fn most(&self, name: &str) -> Option<Way<'a>> {
+        let (&name, _) = self.frames.get_key_value(name)?;
+        Some(self.deepest(name, NODES - 1, &mut Known::new()))
+    }
+}
+
+#[cfg(test)]
+mod tests {
+    use super::*;
+    use crate::machine::functions;
+
+    fn told(printed: &str, name: &str) -> Result<String, String> {
+        let functions = functions(printed)?;
+        let way = Stacks::of(&functions, &[])?.most(name).ok_or("no such function")?;
+        Ok(format!("{}: {}", way.bytes, way.told()))
+    }
+
+    const CALLS: &str = "
+0 <f>:
+   0:\tsub    $0x18,%rsp
+   4:\tje     9 <f+0x9>
+   6:\tcall   b <g>
+   9:\tadd    $0x18,%rsp
+   d:\tjmp    12 <f+0x12>
+\t\t\te: R_X86_64_PLT32\th-0x4
+0 <g>:
+   0:\tmov    %rax,-0x20(%rsp)
+   5:\tret
+   6:\tnop
+0 <h>:
+   0:\tpush   %rbx
+   1:\tpop    %rbx
+   2:\tret
+";
+
+    #[test]
+    fn frames_add_up_and_a_last_call_has_none_above_it() {
+        assert_eq!(told(CALLS, "f"), Ok("72: f 32, g 40".to_string()));
+        assert_eq!(told(CALLS, "h"), Ok("16: h 16".to_string()));
+    }
+
+    #[test]
+    fn a_call_that_is_not_met_is_left_out() {
+        let functions = functions(CALLS).unwrap();
+        let way = Stacks::of(&functions, &["g"]).unwrap().most("f").unwrap();
+        assert_eq!((way.bytes, way.told()), (32, "f 32".to_string()));
+    }
+
+    #[test]
+    fn what_comes_to_itself_stands_there_once_for_each_node() {
+        let printed = "0 <f>:\n 0:\tpush   %rbx\n 1:\tcall   0 <f>\n 6:\tcall   0 <g>\n b:\tpop    %rbx\n c:\tret\n\
+                       0 <g>:\n 0:\tret\n";
+        assert_eq!(told(printed, "f"), Ok("1032: f 64 × 16, g 8".to_string()));
+    }
+
+    #[test]
+    fn what_is_not_clear_is_an_error() {
+        let uneven = "0 <f>:\n 0:\tje     2 <f+0x2>\n 1:\tpush   %rbx\n 2:\tret\n";
+        assert_eq!(told(uneven, "f"), Err("f: at 2 the stack has 16 bytes or 8".to_string()));
+        let idle = "0 <f>:\n 0:\tret\n 1:\tpush   %rbx\n 2:\tret\n";
+        assert_eq!(told(idle, "f"), Err("f: nothing leads to 1".to_string()));
+    }
+}
