@@ -107,6 +107,18 @@ fn rule_forms(list: &mut List) {
     }
 }
 
+/// No byte above 6 is taken for an operation, whichever operation's fields it comes with.
+fn unknown_operations(list: &mut List) {
+    // Or and A have the fields of and and E.
+    let others = forms().into_iter().filter(|right| right.operation != OR && right.operation != A);
+    for (right, operation) in others.flat_map(|right| (7..=255).map(move |operation| (right, operation))) {
+        let (mut nodes, place) = ended_by(right);
+        nodes[place as usize].operation = operation;
+        let name = format!("row 14: operation {operation} with the fields of {}", right.operation);
+        add(list, &name, Case::Kind { rule: rule::bytes(&nodes) }, Expected::Outcome(14, place));
+    }
+}
+
 fn rule_operands(list: &mut List) {
     let t = || plain(TRUE, 0, 0);
     let rule = |nodes: &[Node]| rule::bytes(nodes);
@@ -142,6 +154,7 @@ fn lowest(list: &mut List) {
 pub fn all(list: &mut List) {
     rule_frame(list);
     rule_forms(list);
+    unknown_operations(list);
     rule_operands(list);
     lowest(list);
 }
