@@ -3,7 +3,8 @@
 use crate::bytes;
 use crate::nodes::{all_runs, always, label, not, some_run, AT_LEAST, AT_MOST};
 
-const NODES: usize = 64;
+/// The most nodes of a rule.
+pub const NODES: usize = 64;
 
 /// An until of each operation and kind at the foot of the path, and a path without one.
 pub fn rules(c: u16) -> Vec<Vec<u8>> {

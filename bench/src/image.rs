@@ -1,7 +1,7 @@
 //! What the library takes on a small machine: the bytes of its sections, and the stack of each exported call.
 
 use crate::machine::functions;
-use crate::runs::runs;
+use crate::measured::measured;
 use crate::stack::Stacks;
 use std::process::Command;
 
@@ -42,21 +42,21 @@ fn size_row(file: &str) -> Result<(), String> {
     Ok(())
 }
 
-/// The table of stacks: of each exported call the most that the machine code can take, and what its runs took.
+/// The table of stacks: of each exported call the most that the machine code can take, and what was measured.
 pub fn stacks(archive: &str) -> Result<(), String> {
     let functions = functions(&printed("objdump", &["-dr", "--no-show-raw-insn"], archive)?)?;
     let (counting, others) = (Stacks::of(&functions, &[])?, Stacks::of(&functions, &[COUNTING])?);
-    println!("| call | stack at most | in the runs | deepest way |");
+    println!("| call | stack at most | measured | deepest path of calls |");
     println!("|---|---:|---:|---|");
-    let runs = runs()?;
+    let measured = measured()?;
     for name in functions.keys().filter(|name| name.starts_with("doilystrand_")) {
         let stacks = if name == "doilystrand_count" { &counting } else { &others };
-        let way = stacks.most(name).ok_or(format!("{archive} has no {name}"))?;
-        let taken = *runs.get(name.as_str()).ok_or(format!("{name} has no runs for its stack"))?;
-        if taken as i64 > way.bytes {
-            return Err(format!("{name} took {taken} bytes of stack, where {} were to be the most", way.bytes));
+        let path = stacks.most(name).ok_or(format!("{archive} has no {name}"))?;
+        let taken = *measured.get(name.as_str()).ok_or(format!("the stack of {name} is not measured"))?;
+        if taken as i64 > path.bytes {
+            return Err(format!("{name} took {taken} bytes of stack, where {} were to be the most", path.bytes));
         }
-        println!("| `{name}` | {} | {taken} | {} |", way.bytes, way.told());
+        println!("| `{name}` | {} | {taken} | {} |", path.bytes, path.told());
     }
     Ok(())
 }

@@ -1,5 +1,5 @@
 //! The machine code of the library, as `objdump -dr` prints it: what each instruction does to the stack, and where it
-//! leads.
+//! leads. What is not known is an error, so that nothing is left out unseen.
 
 use std::collections::BTreeMap;
 
@@ -8,22 +8,22 @@ pub enum Does {
     /// The stack grows by so many bytes, or shrinks.
     Grows(i64),
     /// So many bytes below the stack's end are used.
-    Uses(i64),
+    RedZone(i64),
     Calls(String),
     /// A jump inside the function; one that is not always taken may go on.
     Jumps {
         to: u64,
         always: bool,
     },
-    /// The last call of a function, as a jump.
-    Leaves {
+    /// A jump to another function, which returns to this one's caller.
+    TailCall {
         to: String,
         always: bool,
     },
     /// A jump to one of several places of the function.
-    Chooses,
+    IndirectJump,
     Returns,
-    /// Fills up room, and is not run.
+    /// Fills up room; nothing need lead to it.
     Pads,
     Nothing,
 }
@@ -44,15 +44,14 @@ pub fn functions(printed: &str) -> Result<Functions, String> {
     for line in printed.lines() {
         if let Some(head) = line.strip_suffix(">:") {
             name = named(head);
-            all.insert(name.clone(), Vec::new());
+            if all.insert(name.clone(), Vec::new()).is_some() {
+                return Err(format!("there are two functions {name}"));
+            }
             continue;
         }
         let Some(steps) = all.get_mut(&name) else { continue };
-        if line.contains(": R_X86_64_") {
-            steps.last_mut().into_iter().for_each(|last| renamed(last, line));
-            continue;
-        }
-        steps.extend(step(line).map_err(|why| format!("{name}: {why}"))?);
+        let read = if line.contains(": R_X86_64_") { relocated(steps.last_mut(), line) } else { step(line, steps) };
+        read.map_err(|why| format!("{name}: {why}"))?;
     }
     Ok(all)
 }
@@ -63,27 +62,30 @@ fn named(operands: &str) -> String {
     name.trim_end_matches('>').to_string()
 }
 
-/// Where a function of another section is called, the line after the call has its name.
-fn renamed(last: &mut Step, line: &str) {
-    let Some((_, target)) = line.rsplit_once('\t') else { return };
+/// Where a function of another section is called, the line after the call has its name. Other relocations are of data.
+fn relocated(last: Option<&mut Step>, line: &str) -> Result<(), String> {
+    let Some((last, (_, target))) = last.zip(line.rsplit_once('\t')) else { return Ok(()) };
     let name = target.strip_prefix(".text.").unwrap_or(target);
-    let to = name.rsplit_once(['-', '+']).map_or(name, |(name, _)| name).to_string();
-    match last.does {
-        Does::Calls(_) => last.does = Does::Calls(to),
-        Does::Jumps { always, .. } => last.does = Does::Leaves { to, always },
-        _ => {}
-    }
+    let to = name.strip_suffix("-0x4").map(str::to_string).ok_or(format!("{target} is no function's start"));
+    last.does = match &last.does {
+        Does::Calls(_) => Does::Calls(to?),
+        Does::Jumps { always, .. } => Does::TailCall { to: to?, always: *always },
+        Does::IndirectJump => return Err(format!("it jumps by way of {target}")),
+        other => other.clone(),
+    };
+    Ok(())
 }
 
-fn step(line: &str) -> Result<Option<Step>, String> {
-    let Some((at, text)) = line.split_once(":\t") else { return Ok(None) };
-    let Ok(at) = u64::from_str_radix(at.trim(), 16) else { return Ok(None) };
+fn step(line: &str, steps: &mut Vec<Step>) -> Result<(), String> {
+    let Some((at, text)) = line.split_once(":\t") else { return Ok(()) };
+    let Ok(at) = u64::from_str_radix(at.trim(), 16) else { return Ok(()) };
     let text = text.split(" #").next().unwrap_or(text).trim();
     let (word, operands) = text.split_once(char::is_whitespace).unwrap_or((text, ""));
-    Ok(Some(Step { at, does: does(word, operands.trim())? }))
+    steps.push(Step { at, does: does(word, operands.trim())? });
+    Ok(())
 }
 
-/// What an instruction does, by its word and its operands. What moves the stack in another way than these is an error.
+/// What an instruction does, by its word and its operands.
 fn does(word: &str, operands: &str) -> Result<Does, String> {
     match word {
         "push" | "pushq" => Ok(Does::Grows(8)),
@@ -113,7 +115,7 @@ fn number(text: &str) -> Option<i64> {
 fn below(operands: &str) -> Does {
     let reach = operands.split_once("(%rsp").and_then(|(before, _)| before.rsplit([',', ' ']).next());
     match reach.and_then(number) {
-        Some(reach) if reach < 0 => Does::Uses((7 - reach) / 8 * 8),
+        Some(reach) if reach < 0 => Does::RedZone((7 - reach) / 8 * 8),
         _ => Does::Nothing,
     }
 }
@@ -129,8 +131,8 @@ fn moved(word: &str, operands: &str) -> Result<Does, String> {
 }
 
 fn jumped(word: &str, operands: &str) -> Result<Does, String> {
-    if operands.starts_with('*') {
-        return Ok(Does::Chooses);
+    if operands.starts_with("*%r") {
+        return Ok(Does::IndirectJump);
     }
     let to = operands.split(' ').next().and_then(|to| u64::from_str_radix(to, 16).ok());
     let to = to.ok_or_else(|| format!("'{word} {operands}' jumps to no place"))?;
@@ -157,15 +159,15 @@ mod tests {
     fn a_function_with_a_frame_and_calls() {
         let does: Vec<Does> = functions(JUDGE).unwrap()["judge::judge"].iter().map(|step| step.does.clone()).collect();
         let call = Does::Calls("loops::loop_refusal".to_string());
-        let last = Does::Leaves { to: "outcome::accepted".to_string(), always: false };
-        assert_eq!(does, [Does::Grows(8), Does::Grows(0x88), Does::Uses(0x10), call, last, Does::Returns]);
+        let last = Does::TailCall { to: "outcome::accepted".to_string(), always: false };
+        assert_eq!(does, [Does::Grows(8), Does::Grows(0x88), Does::RedZone(0x10), call, last, Does::Returns]);
     }
 
     #[test]
     fn jumps() {
         assert_eq!(does("jne", "4b <f+0x4b>"), Ok(Does::Jumps { to: 0x4b, always: false }));
         assert_eq!(does("jmp", "4b <f+0x4b>"), Ok(Does::Jumps { to: 0x4b, always: true }));
-        assert_eq!(does("jmp", "*%rsi"), Ok(Does::Chooses));
+        assert_eq!(does("jmp", "*%rsi"), Ok(Does::IndirectJump));
     }
 
     #[test]
@@ -173,6 +175,9 @@ mod tests {
         assert!(does("and", "$0xfffffffffffffff0,%rsp").is_err());
         assert!(does("mov", "%rbp,%rsp").is_err());
         assert!(does("call", "*%rax").is_err());
+        assert!(does("jmp", "*0x0(%rip)").is_err());
         assert!(does("leave", "").is_err());
+        assert!(functions(&JUDGE.replace("loop_refusal-0x4", "loop_refusal+0x1c")).is_err());
+        assert!(functions(&[JUDGE, JUDGE].concat()).is_err());
     }
 }

@@ -1,4 +1,4 @@
-//! The stack that a call takes in a run: the call is made on a stack of its own, painted before and looked at afterwards.
+//! The stack that a call takes: it is made on a stack of its own, which is painted before and looked at afterwards.
 
 use std::arch::asm;
 
@@ -34,7 +34,7 @@ pub unsafe fn taken(function: *const (), arguments: &[usize]) -> Taken {
         "xchg rsp, r12",
         "call r13",
         "mov rsp, r12",
-        inout("r12") stack[top..].as_mut_ptr() => _,
+        inout("r12") stack.as_mut_ptr().add(top) => _,
         in("r13") function,
         in("rdi") registers[0],
         in("rsi") registers[1],
@@ -46,6 +46,7 @@ pub unsafe fn taken(function: *const (), arguments: &[usize]) -> Taken {
         clobber_abi("C"),
     );
     let kept = stack.iter().take_while(|&&word| word == PAINT).count();
+    assert!(kept > 0, "the painted stack is too small");
     Taken { answer, bytes: 8 * (top - kept) }
 }
 

@@ -1,23 +1,27 @@
-//! The most stack that a function takes, whatever it is handed: the frames along its deepest way down.
+//! The most stack that a function takes, whatever it is handed: the frames along its deepest path of calls.
 //!
-//! The depth at every instruction follows from those before it. A function that can come to itself again takes a node's
-//! number, which falls, so there are at most as many frames of it at a time as a rule has nodes.
+//! The depth at every instruction follows from those before it.
 
 use crate::machine::{Does, Functions, Step};
+use bench::deep::NODES;
 use std::collections::{BTreeMap, BTreeSet};
-
-/// The most nodes of a rule.
-const NODES: usize = 64;
 
 /// The address that a call leaves on the stack.
 const ADDRESS: i64 = 8;
+
+/// What is C's own counts with that address alone.
+const OF_C: [&str; 1] = ["memset"];
+
+/// The functions that come to themselves again: each takes a node's number, which falls, so there are at most as many frames of
+/// them at a time as a rule has nodes.
+const RECURSIVE: [&str; 3] = ["settle::settle", "call_kind::all_runs", "call_kind::some_run"];
 
 /// The bytes of stack at each step, from where the function was entered; none where nothing leads to.
 fn depths(steps: &[Step]) -> Result<Vec<Option<i64>>, String> {
     let places: BTreeMap<u64, usize> = steps.iter().enumerate().map(|(i, step)| (step.at, i)).collect();
     let mut depths = vec![None; steps.len()];
     let mut open = vec![(0, ADDRESS)];
-    while let Some((i, depth)) = open.pop().or_else(|| chosen(steps, &depths)) {
+    while let Some((i, depth)) = open.pop().or_else(|| jumped_to(steps, &depths)) {
         let Some(step) = steps.get(i) else { return Err("its last instruction goes on".to_string()) };
         match depths[i] {
             Some(known) if known == depth => continue,
@@ -33,21 +37,22 @@ fn depths(steps: &[Step]) -> Result<Vec<Option<i64>>, String> {
 fn following(step: &Step, i: usize, depth: i64, places: &BTreeMap<u64, usize>) -> Result<Vec<(usize, i64)>, String> {
     let next = (i + 1, depth);
     match &step.does {
-        Does::Returns | Does::Leaves { always: true, .. } | Does::Chooses => Ok(vec![]),
+        Does::Returns | Does::TailCall { always: true, .. } | Does::IndirectJump => Ok(vec![]),
         Does::Grows(by) => Ok(vec![(i + 1, depth + by)]),
         Does::Jumps { to, always } => {
             let to = *places.get(to).ok_or_else(|| format!("at {:x} it jumps out of the function", step.at))?;
             Ok(if *always { vec![(to, depth)] } else { vec![(to, depth), next] })
         }
-        Does::Leaves { .. } | Does::Uses(_) | Does::Calls(_) | Does::Pads | Does::Nothing => Ok(vec![next]),
+        Does::TailCall { .. } | Does::RedZone(_) | Does::Calls(_) | Does::Pads | Does::Nothing => Ok(vec![next]),
     }
 }
 
-/// The first step that nothing has led to, where a jump to one of several places may: it is as deep as that jump.
-fn chosen(steps: &[Step], depths: &[Option<i64>]) -> Option<(usize, i64)> {
-    let choice = steps.iter().position(|step| step.does == Does::Chooses)?;
-    let unmet = (0..steps.len()).find(|&i| depths[i].is_none() && steps[i].does != Does::Pads)?;
-    Some((unmet, depths[choice]?))
+/// The first step that nothing has led to, where the function's one indirect jump may: it is as deep as that jump.
+fn jumped_to(steps: &[Step], depths: &[Option<i64>]) -> Option<(usize, i64)> {
+    let mut jumps = (0..steps.len()).filter(|&i| steps[i].does == Does::IndirectJump);
+    let (jump, None) = (jumps.next()?, jumps.next()) else { return None };
+    let left = (0..steps.len()).find(|&i| depths[i].is_none() && steps[i].does != Does::Pads)?;
+    Some((left, depths[jump]?))
 }
 
 /// The bytes that a function takes by itself, and the functions that it calls, each with the depth of the call.
@@ -66,10 +71,10 @@ fn frame(steps: &[Step]) -> Result<Frame<'_>, String> {
         };
         frame.own = frame.own.max(depth);
         match &step.does {
-            Does::Uses(below) => frame.own = frame.own.max(depth + below),
+            Does::RedZone(below) => frame.own = frame.own.max(depth + below),
             Does::Calls(to) => frame.calls.push((to, depth)),
             // The frame is gone by then, and the address is the one that this function returns to.
-            Does::Leaves { to, .. } => frame.calls.push((to, depth - ADDRESS)),
+            Does::TailCall { to, .. } => frame.calls.push((to, depth - ADDRESS)),
             _ => {}
         }
     }
@@ -78,20 +83,20 @@ fn frame(steps: &[Step]) -> Result<Frame<'_>, String> {
 
 /// The frames on the way down, from the highest, each with its function and its bytes.
 #[derive(Clone)]
-pub struct Way<'a> {
+pub struct CallPath<'a> {
     pub bytes: i64,
     frames: Vec<(&'a str, i64)>,
 }
 
-impl<'a> Way<'a> {
+impl<'a> CallPath<'a> {
     fn of(name: &'a str, bytes: i64) -> Self {
-        Way { bytes, frames: vec![(name, bytes)] }
+        CallPath { bytes, frames: vec![(name, bytes)] }
     }
 
     fn under(self, name: &'a str, bytes: i64) -> Self {
-        // A function that has left for its last call has no frame.
+        // A function that has made a tail call has no frame.
         let own = (bytes > 0).then_some((name, bytes));
-        Way { bytes: self.bytes + bytes, frames: own.into_iter().chain(self.frames).collect() }
+        CallPath { bytes: self.bytes + bytes, frames: own.into_iter().chain(self.frames).collect() }
     }
 
     /// In words: equal frames are told once, where the first of them stands.
@@ -111,8 +116,8 @@ impl<'a> Way<'a> {
     }
 }
 
-/// The deepest ways that are known, by function and calls that go round.
-type Known<'a> = BTreeMap<(&'a str, usize), Way<'a>>;
+/// The deepest paths that are known, by function and recursive calls still to come.
+type Known<'a> = BTreeMap<(&'a str, usize), CallPath<'a>>;
 
 /// The frames of a library, and what each function can come to.
 pub struct Stacks<'a> {
@@ -135,44 +140,50 @@ fn reached<'a>(from: &str, frames: &BTreeMap<&'a str, Frame<'a>>) -> BTreeSet<&'
 
 impl<'a> Stacks<'a> {
     /// Calls of functions whose names begin so are left out: what is handed down never leads to them.
-    pub fn of(functions: &'a Functions, unmet: &[&str]) -> Result<Self, String> {
+    pub fn of(functions: &'a Functions, left_out: &[&str]) -> Result<Self, String> {
         let mut frames = BTreeMap::new();
         for (name, steps) in functions {
             let mut frame = frame(steps).map_err(|why| format!("{name}: {why}"))?;
-            frame.calls.retain(|(to, _)| !unmet.iter().any(|beginning| to.starts_with(beginning)));
+            frame.calls.retain(|(to, _)| !left_out.iter().any(|beginning| to.starts_with(beginning)));
+            if let Some((to, _)) = frame.calls.iter().find(|(to, _)| !functions.contains_key(*to) && !OF_C.contains(to))
+            {
+                return Err(format!("{name}: it calls {to}, which is not there"));
+            }
             frames.insert(name.as_str(), frame);
         }
-        let reached = frames.keys().map(|&name| (name, reached(name, &frames))).collect();
-        Ok(Stacks { frames, reached })
+        let reached: BTreeMap<_, _> = frames.keys().map(|&name| (name, reached(name, &frames))).collect();
+        match reached.iter().find(|(name, reached)| reached.contains(*name) && !RECURSIVE.contains(name)) {
+            Some((name, _)) => Err(format!("{name} comes to itself again, how often is not known")),
+            None => Ok(Stacks { frames, reached }),
+        }
     }
 
-    /// Whether a call goes round: the one that is called can come to its caller again.
-    fn goes_round(&self, from: &str, to: &str) -> bool {
+    /// Whether the one that is called can come to its caller again.
+    fn is_recursive(&self, from: &str, to: &str) -> bool {
         self.reached.get(to).is_some_and(|reached| reached.contains(from))
     }
 
-    /// The deepest way from a function, with so many calls that go round still to come.
-    fn deepest(&self, name: &'a str, rounds: usize, known: &mut Known<'a>) -> Way<'a> {
-        // What the library does not have is C's own (memset), and counts with its address alone.
-        let Some(frame) = self.frames.get(name) else { return Way::of(name, ADDRESS) };
-        if let Some(way) = known.get(&(name, rounds)) {
-            return way.clone();
+    /// The deepest path from a function, with so many recursive calls still to come.
+    fn deepest(&self, name: &'a str, recursive: usize, known: &mut Known<'a>) -> CallPath<'a> {
+        let Some(frame) = self.frames.get(name) else { return CallPath::of(name, ADDRESS) };
+        if let Some(path) = known.get(&(name, recursive)) {
+            return path.clone();
         }
-        let mut most = Way::of(name, frame.own);
+        let mut most = CallPath::of(name, frame.own);
         for &(to, depth) in &frame.calls {
-            let left = if self.goes_round(name, to) { rounds.checked_sub(1) } else { Some(NODES - 1) };
+            let left = if self.is_recursive(name, to) { recursive.checked_sub(1) } else { Some(NODES - 1) };
             let Some(left) = left else { continue };
             let below = self.deepest(to, left, known);
             if depth + below.bytes > most.bytes {
                 most = below.under(name, depth);
             }
         }
-        known.insert((name, rounds), most.clone());
+        known.insert((name, recursive), most.clone());
         most
     }
 
-    /// The deepest way from a function of the library.
-    pub fn most(&self, name: &str) -> Option<Way<'a>> {
+    /// The deepest path from a function of the library.
+    pub fn most(&self, name: &str) -> Option<CallPath<'a>> {
         let (&name, _) = self.frames.get_key_value(name)?;
         Some(self.deepest(name, NODES - 1, &mut Known::new()))
     }
@@ -183,10 +194,10 @@ mod tests {
     use super::*;
     use crate::machine::functions;
 
-    fn told(printed: &str, name: &str) -> Result<String, String> {
+    fn told(printed: &str, name: &str, left_out: &[&str]) -> Result<String, String> {
         let functions = functions(printed)?;
-        let way = Stacks::of(&functions, &[])?.most(name).ok_or("no such function")?;
-        Ok(format!("{}: {}", way.bytes, way.told()))
+        let path = Stacks::of(&functions, left_out)?.most(name).ok_or("no such function")?;
+        Ok(format!("{}: {}", path.bytes, path.told()))
     }
 
     const CALLS: &str = "
@@ -196,42 +207,53 @@ mod tests {
    6:\tcall   b <g>
    9:\tadd    $0x18,%rsp
    d:\tjmp    12 <f+0x12>
-\t\t\te: R_X86_64_PLT32\th-0x4
+\t\t\te: R_X86_64_PLT32\tmemset-0x4
 0 <g>:
    0:\tmov    %rax,-0x20(%rsp)
    5:\tret
    6:\tnop
 0 <h>:
+   0:\tjmp    *%rax
+   2:\tpush   %rbx
+   3:\tpop    %rbx
+   4:\tret
+   5:\tret
+";
+
+    const SETTLE: &str = "
+0 <settle::settle>:
    0:\tpush   %rbx
-   1:\tpop    %rbx
-   2:\tret
+   1:\tcall   0 <settle::settle>
+   6:\tcall   0 <g>
+   b:\tpop    %rbx
+   c:\tret
+0 <g>:
+   0:\tret
 ";
 
     #[test]
-    fn frames_add_up_and_a_last_call_has_none_above_it() {
-        assert_eq!(told(CALLS, "f"), Ok("72: f 32, g 40".to_string()));
-        assert_eq!(told(CALLS, "h"), Ok("16: h 16".to_string()));
-    }
-
-    #[test]
-    fn a_call_that_is_not_met_is_left_out() {
-        let functions = functions(CALLS).unwrap();
-        let way = Stacks::of(&functions, &["g"]).unwrap().most("f").unwrap();
-        assert_eq!((way.bytes, way.told()), (32, "f 32".to_string()));
+    fn frames_add_up_and_a_tail_call_has_none_above_it() {
+        assert_eq!(told(CALLS, "f", &[]), Ok("72: f 32, g 40".to_string()));
+        assert_eq!(told(CALLS, "f", &["g"]), Ok("32: f 32".to_string()));
+        assert_eq!(told(CALLS, "h", &[]), Ok("16: h 16".to_string()));
     }
 
     #[test]
     fn what_comes_to_itself_stands_there_once_for_each_node() {
-        let printed = "0 <f>:\n 0:\tpush   %rbx\n 1:\tcall   0 <f>\n 6:\tcall   0 <g>\n b:\tpop    %rbx\n c:\tret\n\
-                       0 <g>:\n 0:\tret\n";
-        assert_eq!(told(printed, "f"), Ok("1032: f 64 × 16, g 8".to_string()));
+        assert_eq!(told(SETTLE, "settle::settle", &[]), Ok("1032: settle::settle 64 × 16, g 8".to_string()));
+        let other = told(&SETTLE.replace("settle::settle", "other"), "other", &[]);
+        assert_eq!(other, Err("other comes to itself again, how often is not known".to_string()));
     }
 
     #[test]
     fn what_is_not_clear_is_an_error() {
         let uneven = "0 <f>:\n 0:\tje     2 <f+0x2>\n 1:\tpush   %rbx\n 2:\tret\n";
-        assert_eq!(told(uneven, "f"), Err("f: at 2 the stack has 16 bytes or 8".to_string()));
+        assert_eq!(told(uneven, "f", &[]), Err("f: at 2 the stack has 16 bytes or 8".to_string()));
         let idle = "0 <f>:\n 0:\tret\n 1:\tpush   %rbx\n 2:\tret\n";
-        assert_eq!(told(idle, "f"), Err("f: nothing leads to 1".to_string()));
+        assert_eq!(told(idle, "f", &[]), Err("f: nothing leads to 1".to_string()));
+        let twice = "0 <f>:\n 0:\tje     3 <f+0x3>\n 1:\tjmp    *%rax\n 3:\tjmp    *%rax\n 5:\tret\n";
+        assert_eq!(told(twice, "f", &[]), Err("f: nothing leads to 5".to_string()));
+        let strange = "0 <f>:\n 0:\tcall   9 <strange>\n 5:\tret\n";
+        assert_eq!(told(strange, "f", &[]), Err("f: it calls strange, which is not there".to_string()));
     }
 }

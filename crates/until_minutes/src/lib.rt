@@ -221,7 +221,8 @@ fn last_row(
     );
 }
 
-// At least c: what is beyond is the until with no bound.
+// At least c: what is beyond is the until with no bound. Three calls find it, so that the compiler keeps the words of
+// `plain_row` in a frame of their own (decision 173).
 fn at_least(
     all: bool,
     chart: &[u8],

@@ -1,4 +1,4 @@
-//! The stack that each exported call takes in runs on the largest charts and the deepest rules.
+//! The stack that each exported call takes on the largest charts and the deepest rules, measured.
 
 use crate::count::ROWS;
 use crate::input::Buffers;
@@ -22,11 +22,11 @@ extern "C" {
 const STATES: usize = 256;
 const ARROWS: usize = 2048;
 
-/// The most bytes that the runs of each call took.
+/// The most bytes that each call took.
 pub type Most = BTreeMap<&'static str, usize>;
 
-/// The answer of a call to these arguments: none but the calls' own.
-fn run(most: &mut Most, name: &'static str, function: unsafe extern "C" fn(), arguments: &[&[usize]]) -> u32 {
+/// Makes a call, notes the stack that it took, and answers its number.
+fn call(most: &mut Most, name: &'static str, function: unsafe extern "C" fn(), arguments: &[&[usize]]) -> u32 {
     // Safety: a slice is handed over as its pointer and its length, and outlives the call.
     let taken = unsafe { taken(function as *const (), &arguments.concat()) };
     let known = most.entry(name).or_default();
@@ -52,17 +52,17 @@ fn expect(name: &str, number: u32, expected: u32) -> Result<(), String> {
 }
 
 /// Check or count, which are handed the same, of a chart with each of the deepest rules.
-fn marks(
+fn with_deep_rules(
     most: &mut Most,
     name: &'static str,
-    call: unsafe extern "C" fn(),
+    function: unsafe extern "C" fn(),
     chart: &[u8],
     c: u16,
 ) -> Result<(), String> {
     let mut buffers = Buffers::with_scratch(ROWS * STATES);
     for rule in deep::rules(c) {
         let tables = [lent(&mut buffers.marks), lent(&mut buffers.scratch)].concat();
-        expect(name, run(most, name, call, &[&read(chart), &read(&rule), &tables]), 0)?;
+        expect(name, call(most, name, function, &[&read(chart), &read(&rule), &tables]), 0)?;
     }
     Ok(())
 }
@@ -70,24 +70,24 @@ fn marks(
 fn checks(most: &mut Most) -> Result<(), String> {
     families::NAMES.iter().try_for_each(|family| {
         let chart = families::chart(family, STATES, ARROWS).ok_or(format!("no chart {family}"))?;
-        marks(most, "doilystrand_check", doilystrand_check, &chart, u16::MAX)
+        with_deep_rules(most, "doilystrand_check", doilystrand_check, &chart, u16::MAX)
     })
 }
 
 fn counts(most: &mut Most) -> Result<(), String> {
     counted::CHARTS.iter().try_for_each(|chart| {
         let chart = counted::chart(chart).ok_or(format!("no chart {chart}"))?;
-        marks(most, "doilystrand_count", doilystrand_count, &chart, 255)
+        with_deep_rules(most, "doilystrand_count", doilystrand_count, &chart, 255)
     })
 }
 
-/// A run of each sort, and each of the deepest rules, which has gone all the way down before it is refused with 60.
+/// Shown runs of every sort, and the deepest rules, which show goes all the way down before it refuses with 60.
 fn shows(most: &mut Most) -> Result<(), String> {
     let (name, mut buffers) = ("doilystrand_show", Buffers::with_scratch(POSITIONS * STATES));
     let mut output = vec![0; 6 * POSITIONS];
     let mut show = |chart: &[u8], rule: &[u8], asked: [usize; 2]| {
         let tables = [lent(&mut buffers.marks), lent(&mut buffers.scratch), asked, lent(&mut output)];
-        run(most, name, doilystrand_show, &[&read(chart), &read(rule), &tables.concat()])
+        call(most, name, doilystrand_show, &[&read(chart), &read(rule), &tables.concat()])
     };
     for (chart, rule) in shown::ROWS {
         let row = shown::input(chart, rule).ok_or(format!("no run is shown for {chart} with {rule}"))?;
@@ -104,7 +104,7 @@ fn map_checks(most: &mut Most) -> Result<(), String> {
     for input in maps::NAMES {
         let input = maps::input(input).ok_or(format!("no map input {input}"))?;
         let charts = [read(&input.detail), read(&input.overview), read(&input.map)];
-        expect(name, run(most, name, doilystrand_map_check, &[&charts.concat()]), 0)?;
+        expect(name, call(most, name, doilystrand_map_check, &[&charts.concat()]), 0)?;
     }
     Ok(())
 }
@@ -113,13 +113,13 @@ fn map_checks(most: &mut Most) -> Result<(), String> {
 fn others(most: &mut Most) -> Result<(), String> {
     for rule in deep::rules(u16::MAX) {
         let name = "doilystrand_kind_of_rule";
-        expect(name, run(most, name, doilystrand_kind_of_rule, &[&read(&rule)]), 0)?;
+        expect(name, call(most, name, doilystrand_kind_of_rule, &[&read(&rule)]), 0)?;
     }
-    run(most, "doilystrand_row", doilystrand_row, &[&[64 * STATES, 64 * STATES, 1, STATES, 63]]);
+    call(most, "doilystrand_row", doilystrand_row, &[&[64 * STATES, 64 * STATES, 1, STATES, 63]]);
     let chart = families::chart("random", STATES, ARROWS).ok_or("no chart random")?;
     // The answer is too long for registers: where it is to stand is handed over first.
     let mut arrow = [0usize; 4];
-    run(most, "doilystrand_arrow", doilystrand_arrow, &[&[arrow.as_mut_ptr() as usize], &read(&chart), &[ARROWS - 1]]);
+    call(most, "doilystrand_arrow", doilystrand_arrow, &[&[arrow.as_mut_ptr() as usize], &read(&chart), &[ARROWS - 1]]);
     if arrow[0] as u32 == 1 {
         Ok(())
     } else {
@@ -127,7 +127,7 @@ fn others(most: &mut Most) -> Result<(), String> {
     }
 }
 
-pub fn runs() -> Result<Most, String> {
+pub fn measured() -> Result<Most, String> {
     let mut most = Most::new();
     checks(&mut most)?;
     counts(&mut most)?;
