@@ -16,8 +16,8 @@ use Rattle.until_minutes.proofs.at_least.Tie as tie
 abbrev start : tie.After-struct-known → tie.Start
 start c = c .before .before .before .before
 
-abbrev zero : tie.Then1 → tie.Start
-zero c = start (c .before)
+abbrev given : tie.Then1 → tie.Start
+given c = start (c .before)
 
 abbrev all : tie.After-plain-row-arg2 → tie.Then2
 all c = c .before .before
@@ -46,13 +46,13 @@ last c = c .before .before .before .before
 plain-row-requires : tie.Need-plain-row-requires
 plain-row-requires c κs =
     let test = all c in
-    let l = zero (test .before) .pre .0 in
+    let l = given (test .before) .pre .0 in
     (l .0, λ s h. l .1 s h ∙ ap bit (test .if2 .taken))
 
 plain-row-requires-2 : tie.Need-plain-row-requires-2
 plain-row-requires-2 c κs =
     let test = some c in
-    let l = zero (test .before) .pre .0 in
+    let l = given (test .before) .pre .0 in
     (l .0, λ s h. l .1 s h ∙ ap bit (test .if2 .left))
 
 returns : tie.Need-returns
@@ -60,7 +60,7 @@ returns c =
     let ran = negated c in
     let plain = failed (ran .before) in
     let test = all (plain .before) in
-    let a = zero (test .before) .args in
+    let a = given (test .before) .args in
     rw (test .if2 .taken)
     (from-failed true (now (a .chart)) (a .n) (a .t) (a .node) (now (a .marks)) (test .before .if1 .taken) refl
     (plain .plain-row .ensures) (ran .fill .ensures))
@@ -69,7 +69,7 @@ returns-2 : tie.Need-returns-2
 returns-2 c =
     let plain = met c in
     let test = some (plain .before) in
-    let a = zero (test .before) .args in
+    let a = given (test .before) .args in
     rw (test .if2 .left)
     (from-met false (now (a .chart)) (a .n) (a .t) (a .node) (now (a .marks)) (test .before .if1 .taken) refl
     (plain .plain-row2 .ensures))
