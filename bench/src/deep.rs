@@ -1,4 +1,4 @@
-//! Rules of 64 nodes that are one path down, as deep as a tree of so many nodes can be.
+//! Rules of 64 nodes that are one path down: as deep as so many nodes can be over the node at their foot.
 
 use crate::bytes;
 use crate::nodes::{all_runs, always, label, not, some_run, AT_LEAST, AT_MOST};
