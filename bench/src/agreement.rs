@@ -1,6 +1,7 @@
 //! Library and peer compared on every input of check, of show and of count.
 
 use crate::count_agreement::count_agreement;
+use crate::hurried_agreement::hurried_agreement;
 use crate::input::Input;
 use crate::report::{GROWING, GROWTH};
 use crate::show::{Lent, Show, POSITIONS};
@@ -14,12 +15,13 @@ pub fn agreement() -> Result<(), String> {
     let mut count = 0;
     for (chart, rule, n) in inputs() {
         let input = Input::sized(&chart, rule, n, 8 * n)?;
-        input.agree().map_err(|why| format!("{chart} with {n} states, {rule}: {why}"))?;
+        input.accepted().map_err(|why| format!("{chart} with {n} states, {rule}: {why}"))?;
         count += 1;
     }
     println!("Library and peer give equal outcomes, marks and scratch on all {count} inputs.");
     show_agreement()?;
-    count_agreement()
+    count_agreement()?;
+    hurried_agreement()
 }
 
 fn show_agreement() -> Result<(), String> {

@@ -9,7 +9,7 @@ pub const UNTILS: [&str; 5] = ["e-most", "e-least", "a-most", "a-least", "mixed"
 pub const BOUNDS: [u16; 3] = [15, 63, 255];
 
 /// The charts and bounds by which the time is seen to grow.
-pub const GROWING: [&str; 5] = ["random", "parts", "parts-short", "parts-wide", "instant"];
+pub const GROWING: [&str; 6] = ["random", "parts", "parts-short", "parts-wide", "instant", "handover"];
 pub const GROWTH: [u16; 5] = [15, 31, 63, 127, 255];
 
 /// Chart and rule of each row.

@@ -56,6 +56,24 @@ pub fn chart(seed: u64) -> Vec<u8> {
     bytes::chart(&labels(n, &mut random), &arrows)
 }
 
+/// The chart of that seed with most slots from 0 up, and some, or most, of them 0 to 0: many of its loops can be taken in no
+/// time, and from some states there may be no others.
+pub fn hurried(seed: u64) -> Vec<u8> {
+    let mut random = Random::new(3 * seed + 5);
+    let instant = [1, 8, 16, 28][random.below(4)];
+    let mut chart = chart(seed);
+    let first = 9 + 2 * usize::from(u16::from_be_bytes([chart[5], chart[6]]));
+    for arrow in chart[first..].chunks_exact_mut(8) {
+        if random.chance(3, 4) {
+            arrow[4..6].fill(0);
+        }
+        if random.chance(instant, 32) {
+            arrow[4..8].fill(0);
+        }
+    }
+    chart
+}
+
 /// Half of the charts are small; one in eight has arrows up to the most that a chart may have.
 fn sizes(random: &mut Random) -> (usize, usize) {
     let most = if random.chance(1, 2) { 24 } else { 256 };
@@ -83,7 +101,7 @@ fn drawn_arrow(style: &Style, n: usize, i: usize, random: &mut Random) -> Arrow 
     let start = if i < n { i } else { random.below(n) };
     let own = i >= n && random.chance(style.own, 32);
     let end = if own { start } else { end_of(style.shape, n, start, i < n, random) };
-    // Only on to a later place, so that no loop takes no time.
+    // Only on to a later place, so that every loop takes time; those of `hurried` need not.
     let instant = end > start && random.chance(style.instant, 32);
     let fewest = if instant { 0 } else { 1 + random.below(style.minutes) };
     let most = if random.chance(style.endless, 32) { NO_END } else { (fewest + random.below(style.minutes)) as u16 };

@@ -1,10 +1,11 @@
 //! Families of charts. Even labels serve as the first operand of an until, odd ones as the second.
 
 use crate::bytes::{self, Arrow, NO_END};
+use crate::handover;
 use crate::random::Random;
 use crate::unordered;
 
-pub const NAMES: [&str; 15] = [
+pub const NAMES: [&str; 16] = [
     "random",
     "waiting",
     "chain",
@@ -20,6 +21,7 @@ pub const NAMES: [&str; 15] = [
     "layers",
     "skips",
     "retry",
+    "handover",
 ];
 
 /// The names of the family's charts: several where seeds make them, else one.
@@ -45,17 +47,18 @@ pub fn chart(name: &str, n: usize, m: usize) -> Option<Vec<u8>> {
         "odd-even" => odd_even(chain(n, m, 0)),
         "grid" => grid(n, m, &mut random),
         "regular" => regular(n, m, &mut random),
+        "handover" => shuffled(handover::arrows(n, m), &mut random),
         // As many states as give every ordered pair about one arrow.
         "dense" => return Some(dense(m, &mut random)),
         _ => return unordered::chart(name, n, m),
     };
-    let one_way = name.starts_with("chain") || name.starts_with("zigzag") || name == "odd-even";
+    let one_way = name.starts_with("chain") || name.starts_with("zigzag") || ["odd-even", "handover"].contains(&name);
     let labels = if one_way { end_labels(n) } else { spread_labels(n, &mut random) };
     Some(bytes::chart(&labels, &arrows))
 }
 
-/// A slot within 0 to 20 minutes, one in 32 without end. Only an arrow to a higher state may take no time, so no loop
-/// is refused.
+/// A slot within 0 to 20 minutes, one in 32 without end. Only an arrow to a higher state may take no time, so every loop
+/// takes some.
 pub fn slot(start: usize, end: usize, random: &mut Random) -> Arrow {
     let least = usize::from(end <= start);
     let fewest = least + random.below(21 - least);

@@ -73,7 +73,7 @@ impl Input {
 
     /// The times of library and peer; an answer that isn't the peer's is not timed.
     pub fn times(&self, plan: &Plan) -> Result<Pair, String> {
-        self.agree()?;
+        self.accepted()?;
         let (mut ours, mut theirs) = (Buffers::new(), Buffers::new());
         let library = || {
             self.library(&mut ours);
@@ -97,12 +97,21 @@ impl Input {
     }
 
     /// Both accept, with equal marks and equal scratch.
-    pub fn agree(&self) -> Result<(), String> {
-        let (mut ours, mut theirs) = (Buffers::new(), Buffers::new());
-        let outcomes = (self.library(&mut ours), self.peer(&mut theirs));
-        if outcomes != ((0, 0), (0, 0)) {
-            return Err(format!("outcomes of library and peer: {outcomes:?}"));
+    pub fn accepted(&self) -> Result<(), String> {
+        match self.agree()? {
+            (0, 0) => Ok(()),
+            (number, place) => Err(format!("library and peer refuse: {number} at {place}")),
         }
-        ours.agree(&theirs)
+    }
+
+    /// What both answer, with equal marks and scratch.
+    pub fn agree(&self) -> Result<(u32, u32), String> {
+        let (mut ours, mut theirs) = (Buffers::new(), Buffers::new());
+        let (outcome, answer) = (self.library(&mut ours), self.peer(&mut theirs));
+        if outcome != answer {
+            return Err(format!("outcomes of library and peer: {outcome:?}, {answer:?}"));
+        }
+        ours.agree(&theirs)?;
+        Ok(outcome)
     }
 }

@@ -5,6 +5,7 @@ pub mod counted;
 pub mod deep;
 pub mod drawn;
 pub mod families;
+pub mod handover;
 pub mod instant;
 pub mod ladder;
 pub mod maps;

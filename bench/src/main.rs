@@ -13,6 +13,7 @@ mod agreement;
 mod count;
 mod count_agreement;
 mod count_tables;
+mod hurried_agreement;
 mod image;
 mod input;
 mod library_count;

@@ -86,7 +86,7 @@ fn quotient() -> MapInput {
     let mut random = Random::new(3);
     let mut detail = random_arrows(STATES, ARROWS, &mut random);
     for arrow in detail.iter_mut() {
-        // A forward arrow may become a self loop of the overview, which must take time there.
+        // A forward arrow may become a self loop of the overview: every loop takes time there too.
         arrow.fewest = arrow.fewest.max(1);
         arrow.most = arrow.most.max(arrow.fewest);
     }

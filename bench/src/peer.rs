@@ -67,7 +67,7 @@ fn accept(chart: &[u8], rule: &[u8], marks: &mut [u8], scratch: &mut [u32]) -> R
     let scratch = scratch.get_mut(..4 * n).ok_or(refusal(18, 0))?;
     // The numbers per state live in vectors here; the lent ones are only left as the paper says.
     scratch.fill(0);
-    chart.refuse_instant_loop()?;
+    chart.refuse_timelock()?;
     Settler::new(&chart).settle(&rule, marks);
     Ok((chart, rule))
 }

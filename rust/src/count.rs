@@ -86,8 +86,8 @@ mod tests {
     }
 
     #[test]
-    fn a_loop_of_zeros_clears_scratch() {
-        let chart = [1, 0, 0, 0, 19, 0, 1, 0, 1, 0, 0, 0, 0, 0, 0, 0, 0, 0, 3]; // an arrow of 0 to 3 minutes
+    fn refusal_19_clears_scratch() {
+        let chart = [1, 0, 0, 0, 19, 0, 1, 0, 1, 0, 0, 0, 0, 0, 0, 0, 0, 0, 0]; // an arrow of 0 to 0 minutes
         let (mut marks, mut scratch) = ([77; 3], [7; 257]);
         assert_eq!(count(&chart, WITHIN_13, &mut marks, &mut scratch).number, 19);
         assert_eq!((marks, &scratch[..256], scratch[256]), ([77; 3], &[0; 256][..], 7));

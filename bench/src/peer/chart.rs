@@ -26,23 +26,23 @@ impl Chart {
         Ok(Chart { labels, out, into })
     }
 
-    /// Refusal 19: a loop of arrows whose fewest are all 0.
-    pub fn refuse_instant_loop(&self) -> Result<(), Outcome> {
-        let instant = |arrow: &Arrow| arrow.fewest == 0;
-        let mut lowest = None;
-        Components::new(self.labels.len()).each(
+    /// Refusal 19: a state from which no loop holding an arrow with most above 0 can be reached.
+    pub fn refuse_timelock(&self) -> Result<(), Outcome> {
+        let n = self.labels.len();
+        let mut goes_on = vec![false; n];
+        Components::new(n).each(
             &self.out,
             |_| true,
-            instant,
-            |members| {
-                let s = usize::from(members[0]);
-                let own = || self.out.of(s).iter().any(|a| instant(a) && usize::from(a.other) == s);
-                if members.len() > 1 || own() {
-                    lowest = members.iter().copied().chain(lowest).min();
+            |_| true,
+            |component| {
+                // All that it leads to was closed before.
+                let leads_on = |&s: &u16| self.out.of(usize::from(s)).iter().any(|a| goes_on[usize::from(a.other)]);
+                if component.passes(&self.out) || component.members.iter().any(leads_on) {
+                    component.members.iter().for_each(|&s| goes_on[usize::from(s)] = true);
                 }
             },
         );
-        lowest.map_or(Ok(()), |s| Err(refusal(19, usize::from(s))))
+        goes_on.iter().position(|&goes_on| !goes_on).map_or(Ok(()), |s| Err(refusal(19, s)))
     }
 }
 

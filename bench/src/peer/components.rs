@@ -13,9 +13,26 @@ struct Visit {
     end: u32,
 }
 
+/// A component, once it is closed.
+pub struct Component<'a> {
+    pub members: &'a [u16],
+    /// Its number, which no other state has, and all numbers.
+    number: u16,
+    numbers: &'a [u16],
+}
+
+impl Component<'_> {
+    /// Whether time can pass within it: an arrow between two of its members lies on a loop.
+    pub fn passes(&self, out: &ArrowLists) -> bool {
+        let passes = |arrow: &Arrow| arrow.most > 0 && self.numbers[usize::from(arrow.other)] == self.number;
+        self.members.iter().any(|&s| out.of(usize::from(s)).iter().any(passes))
+    }
+}
+
 /// The tables of the search, kept from one search to the next.
 pub struct Components {
     found: Vec<u16>,
+    /// The lowest number that is found from each state; once it is settled, that of its component.
     low: Vec<u16>,
     visits: Vec<Visit>,
     open: Vec<u16>,
@@ -40,9 +57,10 @@ impl Components {
         out: &ArrowLists,
         inside: impl Fn(usize) -> bool,
         follow: impl Fn(&Arrow) -> bool,
-        mut settled: impl FnMut(&[u16]),
+        mut settled: impl FnMut(Component),
     ) {
         self.found.fill(UNSEEN);
+        self.low.fill(UNSEEN);
         self.count = 0;
         for state in 0..out.states() {
             if self.found[state] == UNSEEN && inside(state) {
@@ -56,7 +74,7 @@ impl Components {
         root: usize,
         out: &ArrowLists,
         follow: &impl Fn(&Arrow) -> bool,
-        settled: &mut impl FnMut(&[u16]),
+        settled: &mut impl FnMut(Component),
     ) {
         self.enter(root, out);
         while let Some(visit) = self.visits.last_mut() {
@@ -86,7 +104,7 @@ impl Components {
         self.visits.push(Visit { state: state as u16, next, end });
     }
 
-    fn leave(&mut self, settled: &mut impl FnMut(&[u16])) {
+    fn leave(&mut self, settled: &mut impl FnMut(Component)) {
         let Some(visit) = self.visits.pop() else { return };
         let state = usize::from(visit.state);
         let low = self.low[state];
@@ -100,12 +118,14 @@ impl Components {
     }
 
     /// The open states from `first` on are a component.
-    fn close(&mut self, first: u16, settled: &mut impl FnMut(&[u16])) {
+    fn close(&mut self, first: u16, settled: &mut impl FnMut(Component)) {
         let start = self.open.iter().rposition(|&state| state == first).unwrap_or(0);
-        for &state in &self.open[start..] {
+        let (members, number) = (&self.open[start..], self.found[usize::from(first)]);
+        for &state in members {
             self.found[usize::from(state)] = SETTLED;
+            self.low[usize::from(state)] = number;
         }
-        settled(&self.open[start..]);
+        settled(Component { members, number, numbers: &self.low });
         self.open.truncate(start);
     }
 }

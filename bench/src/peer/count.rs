@@ -42,12 +42,12 @@ fn accept(
     let n = chart.labels.len();
     let marks = marks.get_mut(..rule.nodes.len() * n).ok_or(refusal(17, 0))?;
     let scratch = scratch.get_mut(..ROWS * n).ok_or(refusal(18, 0))?;
-    let looped = chart.refuse_instant_loop();
-    if looped.is_ok() {
+    let locked = chart.refuse_timelock();
+    if locked.is_ok() {
         settle(&chart, &rule, marks, scratch);
     }
     scratch.fill(0);
-    looped
+    locked
 }
 
 /// Refusal 63: a bound that has no row.

@@ -1,7 +1,7 @@
 //! Counting the minutes, quick or plain, gives the marks of check, refuses as it should, and leaves the tables as it
 //! should.
 
-use crate::common::{arrow, call, node, word, Answer, LENT_MARK, LENT_NUMBER};
+use crate::common::{arrow, call, node, outcome, word, Answer, LENT_MARK, LENT_NUMBER};
 use bench::bytes::{self, Node};
 use bench::peer::{self, Outcome};
 use bench::{counted, drawn};
@@ -35,6 +35,19 @@ fn drawn_charts_have_the_marks_of_check() {
     for seed in 0..1_000 {
         judge(&drawn::chart(seed), &counted::near(drawn::rule(seed)), &format!("seed {seed}"));
     }
+}
+
+#[test]
+fn hurried_charts_have_the_marks_of_check() {
+    let mut accepted = 0;
+    for seed in 0..1_000 {
+        let (chart, rule) = (drawn::hurried(seed), counted::near(drawn::rule(seed)));
+        if outcome(&chart, &rule) == (0, 0) {
+            judge(&chart, &rule, &format!("seed {seed}"));
+            accepted += 1;
+        }
+    }
+    assert!(accepted > 700, "{accepted}");
 }
 
 /// A rule of every until over two labels, the bound being asked for at every minute.
@@ -92,9 +105,9 @@ fn tables_and_loops() {
     assert_eq!(refused(&short(), &rule, 2, 768), (17, 0));
     // As many rows for a rule without untils.
     assert_eq!(refused(&short(), &rule, 3, 767), (18, 0));
-    let instant = bytes::chart(&[0], &[arrow(0, 0, 0, 3)]);
-    assert_eq!(refused(&instant, &rule, 1, 255), (18, 0));
-    assert_eq!(refused(&instant, &rule, 1, 257), (19, 0));
+    let still = bytes::chart(&[0], &[arrow(0, 0, 0, 0)]);
+    assert_eq!(refused(&still, &rule, 1, 255), (18, 0));
+    assert_eq!(refused(&still, &rule, 1, 257), (19, 0));
 }
 
 /// The example of the paper's readings.

@@ -28,6 +28,21 @@ fn charts_with(holds: impl Fn(&[u8], &[Arrow]) -> bool) -> usize {
     SEEDS.filter(with).count()
 }
 
+/// Some of the hurried ones have a state from which time can't pass; all of them have the arrows of their seed.
+#[test]
+fn hurried_charts_are_accepted_or_refused_by_19() {
+    let mut refused = 0;
+    for seed in SEEDS {
+        let (chart, hurried) = (drawn::chart(seed), drawn::hurried(seed));
+        let number = outcome(&hurried, &drawn::rule(seed)).0;
+        assert!([0, 19].contains(&number), "{seed}");
+        refused += usize::from(number == 19);
+        let ends = |chart: &[u8]| arrows_of(chart).iter().map(|a| (a.start, a.end)).collect::<Vec<_>>();
+        assert_eq!(ends(&chart), ends(&hurried), "{seed}");
+    }
+    assert!((50..300).contains(&refused), "{refused}");
+}
+
 fn leads_back(arrow: &Arrow) -> bool {
     arrow.end < arrow.start
 }

@@ -4,6 +4,7 @@ mod common;
 mod count;
 mod counted;
 mod drawn;
+mod handover;
 mod inputs;
 mod items;
 mod reason;

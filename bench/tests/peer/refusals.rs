@@ -94,12 +94,34 @@ fn nodes_of_rule() {
 }
 
 #[test]
-fn tables_and_loops() {
+fn tables() {
     assert_eq!(refused(&good_chart(), &good_rule(), 8, 11), (17, 0));
     assert_eq!(refused(&good_chart(), &good_rule(), 9, 11), (18, 0));
-    let alone = bytes::chart(&[0], &[arrow(0, 0, 0, 3)]);
-    assert_eq!(refused(&alone, &good_rule(), 9, 5), (19, 0));
-    // State 0 only leads to the loop of 1 and 3.
-    let arrows = [arrow(0, 1, 0, 0), arrow(1, 3, 0, 9), arrow(3, 1, 0, 0), arrow(2, 0, 0, 1)];
-    assert_eq!(refused(&bytes::chart(&[0; 4], &arrows), &good_rule(), 12, 17), (19, 1));
+}
+
+/// Number and place for a chart of n states.
+fn timelock(n: usize, arrows: &[Arrow]) -> (u32, u32) {
+    refused(&bytes::chart(&vec![0; n], arrows), &good_rule(), 3 * n, 4 * n + 1)
+}
+
+/// Whether the chart is accepted.
+fn passed(n: usize, arrows: &[Arrow]) -> bool {
+    call(&bytes::chart(&vec![0; n], arrows), &good_rule(), 3 * n, 4 * n).outcome.number == 0
+}
+
+#[test]
+fn time_stands_still() {
+    assert_eq!(timelock(1, &[arrow(0, 0, 0, 0)]), (19, 0));
+    assert!(passed(1, &[arrow(0, 0, 0, 1)]) && passed(1, &[arrow(0, 0, 0, 3)]) && passed(1, &[arrow(0, 0, 0, 65_535)]));
+    // One of two arrows side by side is enough.
+    assert!(passed(1, &[arrow(0, 0, 0, 0), arrow(0, 0, 0, 1)]));
+    assert_eq!(timelock(2, &[arrow(0, 1, 0, 0), arrow(1, 0, 0, 0)]), (19, 0));
+    assert!(passed(2, &[arrow(0, 1, 0, 0), arrow(1, 0, 0, 3)]));
+    // An arrow on no loop doesn't help; a loop that can be left does no harm.
+    assert_eq!(timelock(2, &[arrow(0, 1, 1, 1), arrow(1, 1, 0, 0)]), (19, 0));
+    assert!(passed(2, &[arrow(0, 1, 1, 1), arrow(1, 1, 0, 1)]));
+    assert!(passed(2, &[arrow(0, 0, 0, 0), arrow(0, 1, 0, 0), arrow(1, 1, 1, 1)]));
+    // State 0 can leave the loop of 1 and 3, state 2 leads there alone.
+    let arrows = [arrow(0, 1, 0, 0), arrow(0, 0, 0, 1), arrow(2, 3, 0, 9), arrow(1, 3, 0, 0), arrow(3, 1, 0, 0)];
+    assert_eq!(timelock(4, &arrows), (19, 1));
 }

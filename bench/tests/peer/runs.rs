@@ -1,5 +1,5 @@
 //! The peer against the meaning itself on small random charts: untils are decided over pairs of a state and the minutes
-//! passed, where the minutes stop counting once they are past the bound.
+//! passed, where the minutes stop counting once they are past the bound. A run counts only if its moments pass every number.
 
 use crate::common::{marks, node};
 use bench::bytes::{self, Arrow, Node, NO_END};
@@ -14,38 +14,55 @@ pub struct Pairs<'a> {
     pub top: usize,
 }
 
+/// A step to a pair, and whether it takes time.
+pub struct Step {
+    pub to: (usize, usize),
+    timed: bool,
+}
+
+/// Whether each pair is in a set, by state and minutes.
+type Set = Vec<Vec<bool>>;
+
 impl Pairs<'_> {
-    /// Every pair that one step may lead to.
-    pub fn steps(&self, state: usize, minutes: usize) -> Vec<(usize, usize)> {
-        let mut after = Vec::new();
+    /// Every step that may be taken from a pair.
+    pub fn steps(&self, state: usize, minutes: usize) -> Vec<Step> {
+        let mut steps = Vec::new();
         for arrow in self.arrows.iter().filter(|arrow| usize::from(arrow.start) == state) {
             let last = if arrow.most == NO_END { arrow.fewest + self.top as u16 } else { arrow.most };
             for duration in arrow.fewest..=last {
-                after.push((usize::from(arrow.end), (minutes + usize::from(duration)).min(self.top)));
+                let minutes = (minutes + usize::from(duration)).min(self.top);
+                steps.push(Step { to: (usize::from(arrow.end), minutes), timed: duration > 0 });
             }
         }
-        after
+        steps
     }
 
-    /// The until at each state at minute 0, as the least set of pairs closed under its step.
+    /// The until at each state at minute 0, as the least set of pairs closed under the steps that take time. A run that
+    /// only takes others doesn't count: so under these the set is the least for E and the greatest for A.
     fn until(&self, all_runs: bool, p: &[bool], q: &dyn Fn(usize, usize) -> bool) -> Vec<bool> {
         let mut met = vec![vec![false; self.top + 1]; self.n];
-        let mut changed = true;
-        while changed {
-            changed = false;
-            for s in 0..self.n {
-                for t in 0..=self.top {
-                    let holds = |&(s, t): &(usize, usize)| met[s][t];
-                    let steps = self.steps(s, t);
-                    let onward = if all_runs { steps.iter().all(holds) } else { steps.iter().any(holds) };
-                    if !met[s][t] && (q(s, t) || p[s] && onward) {
-                        met[s][t] = true;
-                        changed = true;
-                    }
-                }
+        loop {
+            let before = met;
+            met = vec![vec![all_runs; self.top + 1]; self.n];
+            while self.round(all_runs, p, q, &before, &mut met) {}
+            if met == before {
+                return met.iter().map(|row| row[0]).collect();
             }
         }
-        met.iter().map(|row| row[0]).collect()
+    }
+
+    /// Decides every pair anew, `before` being what is met after a step that takes time. Whether one has changed.
+    fn round(&self, all: bool, p: &[bool], q: &dyn Fn(usize, usize) -> bool, before: &Set, met: &mut Set) -> bool {
+        let mut changed = false;
+        for (s, t) in (0..self.n).flat_map(|s| (0..=self.top).map(move |t| (s, t))) {
+            let holds = |step: &Step| (if step.timed { before } else { &*met })[step.to.0][step.to.1];
+            let steps = self.steps(s, t);
+            let onward = if all { steps.iter().all(holds) } else { steps.iter().any(holds) };
+            let now = q(s, t) || p[s] && onward;
+            changed |= met[s][t] != now;
+            met[s][t] = now;
+        }
+        changed
     }
 }
 
@@ -73,18 +90,25 @@ fn rows(labels: &[u16], arrows: &[Arrow], nodes: &[Node]) -> Vec<Vec<bool>> {
     rows
 }
 
+/// Of eight arrows none, some or most are 0 to 0.
 pub fn random_chart(random: &mut Random) -> (Vec<u16>, Vec<Arrow>) {
     let n = 1 + random.below(6);
     let m = n + random.below(n + 2);
+    let instant = [0, 1, 4, 6][random.below(4)];
     let labels = (0..n).map(|_| random.below(8) as u16).collect();
     let mut arrows = Vec::new();
     for i in 0..m {
         let start = if i < n { i } else { random.below(n) };
-        let fewest = random.below(4) as u16;
-        let most = if random.chance(1, 8) { NO_END } else { fewest + random.below(3) as u16 };
+        let (fewest, most) = if random.chance(instant, 8) { (0, 0) } else { random_slot(random) };
         arrows.push(Arrow { start: start as u16, end: random.below(n) as u16, fewest, most });
     }
     (labels, arrows)
+}
+
+fn random_slot(random: &mut Random) -> (u16, u16) {
+    let fewest = random.below(4) as u16;
+    let most = if random.chance(1, 8) { NO_END } else { fewest + random.below(3) as u16 };
+    (fewest, most)
 }
 
 /// A tree in which each node but the last is used once: operands are taken from the roots still free.
@@ -117,18 +141,24 @@ fn two_operands(a: u16, b: u16, random: &mut Random) -> Node {
     node(operation, kind, a, b, random.below(12) as u16)
 }
 
-/// The lowest state on a loop of arrows whose fewest are 0, by following them n times from each state.
-pub fn instant_loop(n: usize, arrows: &[Arrow]) -> Option<usize> {
-    (0..n).find(|&first| {
-        let mut reached = vec![false; n];
-        for _ in 0..n {
-            for arrow in arrows.iter().filter(|arrow| arrow.fewest == 0) {
-                let start = usize::from(arrow.start);
-                reached[usize::from(arrow.end)] |= start == first || reached[start];
-            }
+/// The states that arrows lead to from that one, itself included.
+fn reached(n: usize, arrows: &[Arrow], from: usize) -> Vec<bool> {
+    let mut reached = vec![false; n];
+    reached[from] = true;
+    for _ in 0..n {
+        for arrow in arrows {
+            reached[usize::from(arrow.end)] |= reached[usize::from(arrow.start)];
         }
-        reached[first]
-    })
+    }
+    reached
+}
+
+/// The lowest state from which no loop holding an arrow with most above 0 can be reached.
+pub fn timelock(n: usize, arrows: &[Arrow]) -> Option<usize> {
+    let reached: Vec<Vec<bool>> = (0..n).map(|s| reached(n, arrows, s)).collect();
+    let on_loop = |a: &&Arrow| a.most > 0 && reached[usize::from(a.end)][usize::from(a.start)];
+    let starts: Vec<usize> = arrows.iter().filter(on_loop).map(|a| usize::from(a.start)).collect();
+    (0..n).find(|&s| !starts.iter().any(|&start| reached[s][start]))
 }
 
 #[test]
@@ -139,7 +169,7 @@ fn random_charts() {
         let (labels, arrows) = random_chart(&mut random);
         let nodes = random_rule(&mut random);
         let (n, k) = (labels.len(), nodes.len());
-        if let Some(place) = instant_loop(n, &arrows) {
+        if let Some(place) = timelock(n, &arrows) {
             let (mut table, mut scratch) = (vec![9; k * n], vec![9; 4 * n]);
             let outcome = peer::check(&bytes::chart(&labels, &arrows), &bytes::rule(&nodes), &mut table, &mut scratch);
             assert_eq!((outcome.number, outcome.place as usize), (19, place));

@@ -3,7 +3,7 @@
 
 use crate::common::{arrow, marks, node, show, Ask, LENT_MARK, LENT_NUMBER};
 use crate::reason::{judge, positions, Until};
-use crate::runs::{instant_loop, random_chart, random_rule, Pairs};
+use crate::runs::{random_chart, random_rule, timelock, Pairs};
 use bench::bytes::{self, Arrow, Node, NO_END};
 use bench::random::Random;
 use std::collections::BTreeSet;
@@ -18,7 +18,7 @@ fn fewest_steps(until: &Until, arrows: &[Arrow], state: usize) -> Option<usize> 
             return Some(steps);
         }
         let left = layer.iter().filter(|&&(s, minutes)| until.goes_on(s, minutes as u64));
-        let next: Vec<_> = left.flat_map(|&(s, minutes)| pairs.steps(s, minutes)).collect();
+        let next: Vec<_> = left.flat_map(|&(s, minutes)| pairs.steps(s, minutes)).map(|step| step.to).collect();
         layer = next.into_iter().filter(|&pair| seen.insert(pair)).collect();
         if layer.is_empty() {
             break;
@@ -95,7 +95,7 @@ fn random_case(random: &mut Random, bounds: usize) -> Option<Case> {
     for node in nodes.iter_mut().filter(|node| node.operation >= 5) {
         node.c = random.below(bounds) as u16;
     }
-    instant_loop(labels.len(), &arrows).is_none().then(|| Case::new(labels, arrows, nodes))
+    timelock(labels.len(), &arrows).is_none().then(|| Case::new(labels, arrows, nodes))
 }
 
 #[test]

@@ -67,6 +67,6 @@ fn check_comes_first() {
     assert_eq!(number(&chart(), &rule, Ask { marks: 8, scratch: 11, ..far }, 0, false), 17);
     assert_eq!(number(&chart(), &rule, Ask { scratch: 11, ..far }, 0, false), 18);
     let nodes: [Node; 1] = [node(0, 0, 0, 0, 0)];
-    let instant = bytes::chart(&[0], &[arrow(0, 0, 0, 3)]);
-    assert_eq!(number(&instant, &bytes::rule(&nodes), far, 4, false), 19);
+    let still = bytes::chart(&[0], &[arrow(0, 0, 0, 0)]);
+    assert_eq!(number(&still, &bytes::rule(&nodes), far, 4, false), 19);
 }

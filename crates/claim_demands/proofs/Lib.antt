@@ -7,3 +7,4 @@ pub mod DetailRule
 pub mod FirstDemand
 pub mod Answerable
 pub mod FillsAlike
+pub mod KeptCharts

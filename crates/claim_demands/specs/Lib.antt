@@ -7,3 +7,4 @@ pub mod SecondDemand
 pub mod DetailRule
 pub mod Answerable
 pub mod FillsAlike
+pub mod KeptCharts

@@ -17,7 +17,7 @@ use Rattle.base.proofs.Tabulate.{mem-tabulate}
 use Rattle.base.specs.Every.{every}
 use Rattle.model.specs.Engine.{round, rounds, lower, raise, least, greatest}
 use Rattle.model.specs.Decide.{someRow, waits, plainRow, sureRow, allRow, answers, holds}
-use Rattle.model.specs.ZeroLoop.{leads}
+use Rattle.model.specs.TimedLoop.{leads}
 use Rattle.base.proofs.Every.{every-true}
 use Rattle.model.proofs.Decide.{holds-iff}
 use Rattle.outcome.specs.Refusal.{lowest, first, success}

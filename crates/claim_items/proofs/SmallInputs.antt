@@ -4,7 +4,7 @@ use mathlib.Core.Bool.{true}
 use Rattle.base.specs.Tabulate.{tabulate}
 use Rattle.base.specs.Sum.{sum}
 use Rattle.base.specs.Every.{every}
-use Rattle.model.specs.ZeroLoop.{leads}
+use Rattle.model.specs.TimedLoop.{leads}
 use Rattle.outcome.specs.Refusal.{lowest, first}
 use Rattle.chart.specs.Bytes.{arrowWords, chartOf}
 use Rattle.chart.specs.Refusals.{leftBy, chartTable}

@@ -30,6 +30,10 @@ versioned v (b ∷ s) = v ∷ s
 abbrev pub shortWith : List ℕ → List ℕ
 shortWith a = chart 3 (length a / 8 + 2) (wordBytes 1 ++ wordBytes 2 ++ wordBytes 4) (arrow 0 1 5 10 ++ a ++ arrow 2 0 20 65535)
 
+-- no loop holding an arrow with most above 0 can be reached from its state 1 alone
+abbrev pub stranded : List ℕ
+stranded = shortWith (arrow 0 0 1 1 ++ arrow 1 1 0 0)
+
 unfoldable pub charts : List Refused
 charts =
     -- Short is not refused
@@ -52,12 +56,16 @@ charts =
     refused 8 1 (shortWith (arrow 1 2 5 4)) ∷
     -- n = 2, one arrow 0 to 0
     refused 9 1 (chart 2 1 (wordBytes 0 ++ wordBytes 0) (arrow 0 0 1 1)) ∷
-    -- arrow 0 to 0, slot 0 to 3
-    refused 19 0 (chart 1 1 (wordBytes 0) (arrow 0 0 0 3)) ∷
-    -- state 0 only leads to a loop of fewest 0
-    refused 19 1 (chart 2 2 (wordBytes 0 ++ wordBytes 0) (arrow 0 1 0 3 ++ arrow 1 1 0 3)) ∷
-    -- a loop that passes an arrow with fewest above 0 is not refused
-    refused 0 0 (chart 2 2 (wordBytes 0 ++ wordBytes 0) (arrow 0 1 0 3 ++ arrow 1 0 1 3)) ∷
+    -- arrow 0 to 0, slot 0 to 0; its slot before paper 4, 0 to 3, is not refused
+    refused 19 0 (chart 1 1 (wordBytes 0) (arrow 0 0 0 0)) ∷
+    refused 0 0 (chart 1 1 (wordBytes 0) (arrow 0 0 0 3)) ∷
+    -- "handing a job back and forth takes 0 to 3 minutes each way": not refused
+    refused 0 0 (chart 2 2 (wordBytes 0 ++ wordBytes 0) (arrow 0 1 0 3 ++ arrow 1 0 0 3)) ∷
+    -- the arrow with most above 0 is on no loop
+    refused 19 0 (chart 2 2 (wordBytes 0 ++ wordBytes 0) (arrow 0 1 1 1 ++ arrow 1 1 0 0)) ∷
+    -- from state 1 no such loop can be reached; if it has an arrow to state 0 too, one can
+    refused 19 1 (chart 2 2 (wordBytes 0 ++ wordBytes 0) (arrow 0 0 0 1 ++ arrow 1 1 0 0)) ∷
+    refused 0 0 (chart 2 3 (wordBytes 0 ++ wordBytes 0) (arrow 0 0 0 1 ++ arrow 1 1 0 0 ++ arrow 1 0 0 0)) ∷
     []
 
 unfoldable pub rules : List Refused
@@ -107,8 +115,8 @@ maps =
     refusedMap 1 0 [] [] itself ∷
     -- an empty overview is 41
     refusedMap 41 0 short [] itself ∷
-    -- overview with a loop of fewest 0, at its state 1 alone
-    refusedMap 59 1 short (shortWith (arrow 1 1 0 4)) itself ∷
+    -- overview from whose state 1 alone no loop holding an arrow with most above 0 can be reached
+    refusedMap 59 1 short stranded itself ∷
     -- empty map
     refusedMap 20 0 short short [] ∷
     -- count 2, detail n = 3
@@ -150,10 +158,10 @@ checks =
     refusedJudge 18 0 short (trueUntil A 2 atMost 13) 9 11 ∷
     -- the chart is tested before the rule, the rule before the marks, the marks before scratch, scratch before 19
     refusedJudge 1 0 [] [] 0 0 ∷
-    refusedJudge 10 0 (shortWith (arrow 1 1 0 4)) [] 0 0 ∷
-    refusedJudge 17 0 (shortWith (arrow 1 1 0 4)) (trueUntil A 2 atMost 13) 0 0 ∷
-    refusedJudge 18 0 (shortWith (arrow 1 1 0 4)) (trueUntil A 2 atMost 13) 9 0 ∷
-    refusedJudge 19 1 (shortWith (arrow 1 1 0 4)) (trueUntil A 2 atMost 13) 9 12 ∷
+    refusedJudge 10 0 stranded [] 0 0 ∷
+    refusedJudge 17 0 stranded (trueUntil A 2 atMost 13) 0 0 ∷
+    refusedJudge 18 0 stranded (trueUntil A 2 atMost 13) 9 0 ∷
+    refusedJudge 19 1 stranded (trueUntil A 2 atMost 13) 9 12 ∷
     []
 
 -- A(true until E(true until L2, at least b), at most c)

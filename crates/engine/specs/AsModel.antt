@@ -3,7 +3,6 @@ use mathlib.Core.Path.{_≡_}
 use mathlib.Core.Bool.{Bool}
 use mathlib.Core.List.{List}
 use Prim.Native.Nat.{ℕ}
-use lib.ListN.{length}
 use Rattle.model.specs.Engine.{lowered, raised}
 use Rattle.model.specs.Weighed.{weighed}
 use Rattle.chart.specs.Bytes.{chartOf}
@@ -13,10 +12,9 @@ use Rattle.ways.specs.declared.Way.the-variants.{Lower, Raise}
 use Rattle.ways.specs.Way.{leftOver}
 use Rattle.visits.specs.Moves.{Given, Ready}
 
--- a chart that passes checks 1 to 9, a row, and numbers with the sides of some go, by which what is left becomes less
-pub record Prepared (way : Way) (chart : List ℕ) (n m : ℕ) (row ns : List ℕ) : Type 0 where
+-- a chart that passes checks 1 to 9, and numbers with the sides of some go, by which what is left becomes less
+pub record Prepared (way : Way) (chart : List ℕ) (n m : ℕ) (ns : List ℕ) : Type 0 where
   pub given : Given way chart n m ns
-  pub wide : length row ≡ n
   pub go : ℕ → Bool
   pub ready : Ready way go ns
 

@@ -92,7 +92,7 @@ fn kept(moved: bool, floor: usize) -> usize
 
 // Numbers rise until no arrow raises one. What rises after n sweeps rises without end, and goes to the cap at once.
 fn rise(way: Way, chart: &[u8], n: usize, m: usize, row: &mut [u8], numbers: &mut [u32])
-    requires { ⌜ Prepared way (now chart) n m (now row) (now numbers) ⌝ }
+    requires { ⌜ Prepared way (now chart) n m (now numbers) ⌝ }
     ensures { λ _. ⌜ AllAsModel way (now (chart .entry)) n (now (numbers .entry)) (now (numbers .exit)) ⌝ }
 {
     let mut done = 0;
@@ -116,7 +116,7 @@ fn rise(way: Way, chart: &[u8], n: usize, m: usize, row: &mut [u8], numbers: &mu
 
 // The same, and at once where no number can rise: the model's minutes.
 pub fn settle(way: Way, chart: &[u8], n: usize, m: usize, row: &mut [u8], numbers: &mut [u32])
-    requires { ⌜ Prepared way (now chart) n m (now row) (now numbers) ⌝ }
+    requires { ⌜ Prepared way (now chart) n m (now numbers) ⌝ }
     ensures { λ _. ⌜ AllAsModel way (now (chart .entry)) n (now (numbers .entry)) (now (numbers .exit)) ⌝ }
 {
     if at_rest(way, numbers) {

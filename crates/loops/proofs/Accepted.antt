@@ -1,19 +1,16 @@
 -- "A chart is accepted exactly if it passes checks 1 to 9 and 19": the table's success is the format and the meaning.
-use mathlib.Core.Path.{_≡_, refl, sym, ap, _∙_}
+use mathlib.Core.Path.{_≡_, refl, ap}
 use mathlib.Core.Logic.{_↔_, Iff·symm, Iff·trans}
-use mathlib.Core.Bool.{false≢true}
 use mathlib.Core.List.{List, [], _∷_}
+use mathlib.Core.Bool.{false}
 use mathlib.Core.Option.{none}
 use Prim.Native.Nat.{ℕ, _<_}
 use native.Mathlib.Omega.{arith}
-use Rattle.base.proofs.Truth.{no-test}
-use Rattle.tctl.specs.Run.{Run}
-use Rattle.tctl.specs.Accepted.{Accepted, OnZeroLoop}
-use Rattle.tctl.proofs.Drawn.{Drawn}
-use Rattle.tctl.proofs.Passes.{Passes}
-use Rattle.tctl.proofs.Passing.{passes}
-use Rattle.model.specs.ZeroLoop.{onZeroLoop}
-use Rattle.model.proofs.ZeroLoop.{on-zero-loop-iff}
+use Rattle.tctl.specs.Chart.{states}
+use Rattle.tctl.specs.Accepted.{Accepted, ReachesTimedLoop}
+use Rattle.tctl.proofs.Drawn.{Drawn, accepted-drawn}
+use Rattle.model.specs.TimedLoop.{noTimedLoop}
+use Rattle.model.proofs.TimedLoop.{no-timed-loop-iff}
 use Rattle.outcome.specs.declared.Outcome.{Outcome}
 use Rattle.outcome.specs.Refusal.{success, lowest}
 use Rattle.outcome.specs.Met.{Unmet, end}
@@ -29,7 +26,6 @@ use Rattle.chart.proofs.Converse.{formed-unmet, accepted-formed}
 use Rattle.chart.proofs.Reading.{drawn}
 use Rattle.loops.specs.Refusal.{loopRow, acceptedTable, acceptedRefusal}
 use Rattle.loops.specs.Accepted.{ChartFormat, AcceptedChart}
-use Rattle.loops.proofs.Loops.{chain-below}
 
 module _ (s : List ℕ) where
   pub accepted-numbered : Numbered (acceptedTable s)
@@ -60,16 +56,14 @@ module _ (s : List ℕ) where
     dr : Drawn (chartOf s)
     dr = drawn passed
 
-    no-loops : lowest (onZeroLoop (chartOf s)) (stateCount s) ≡ none
+    none-stranded : lowest (noTimedLoop (chartOf s)) (stateCount s) ≡ none
     unfolding loopRow
-    no-loops = unmet-row (parts .1) .0
+    none-stranded = unmet-row (parts .1) .0
 
-    -- A state on a loop is the start of an arrow, hence one of the states that row 19 asks.
-    timed : (v : ℕ) → OnZeroLoop (chartOf s) v → ⊥
-    timed v c =
-        let G = chartOf s in
-        let l : v < stateCount s = omega (arith, chain-below dr c, states-of s) in
-        false≢true (sym (none-below (onZeroLoop G) (stateCount s) no-loops v l) ∙ on-zero-loop-iff G v .1 c)
+    timed : (v : ℕ) → v < states (chartOf s) → ReachesTimedLoop (chartOf s) v
+    timed v l =
+        let low : v < stateCount s = omega (arith, states-of s) in
+        no-timed-loop-iff dr v .0 (none-below (noTimedLoop (chartOf s)) (stateCount s) none-stranded v low)
 
     -- rows 7 to 9 and 19 are the premises of the theory
     pub accepted-only : Accepted (chartOf s)
@@ -81,9 +75,6 @@ module _ (s : List ℕ) where
           leaves = chart-left s ok;
           timed = timed;
         }
-
-    pub accepted-passes : (v : ℕ) → v < stateCount s → (r : Run (chartOf s) v) → Passes (r .duration)
-    accepted-passes v l r = passes accepted-only v (omega (arith, states-of s)) r
 
     format : ChartFormat s
     format =
@@ -112,13 +103,21 @@ module _ (s : List ℕ) where
         whole = f .whole;
       }
 
-  -- row 19's test decides OnZeroLoop, and no state is on a loop
+  -- row 19's test decides whether a state reaches such a loop, and each does
   loop-unmet : Accepted (chartOf s) → Unmet (loopRow s ∷ [])
   unfolding loopRow
   loop-unmet acc =
       let G = chartOf s in
-      let e = lowest-none (onZeroLoop G) (stateCount s) (λ v l. no-test (on-zero-loop-iff G v) (acc .timed v)) in
-      unmet-more e end
+      let reach : (v : ℕ) → v < stateCount s → noTimedLoop G v ≡ false =
+      λ v l. no-timed-loop-iff (accepted-drawn acc) v .1 (acc .timed v (omega (arith, states-of s))) in
+      unmet-more (lowest-none (noTimedLoop G) (stateCount s) reach) end
+
+  -- rows 1 to 9 are passed, and the rest is the meaning
+  pub accepted-by-meaning : chartRefusal s .number ≡ 0 → Accepted (chartOf s) → acceptedRefusal s ≡ success
+  unfolding chartTable
+  accepted-by-meaning z acc =
+      success-iff (acceptedTable s) accepted-numbered .1
+      (parts-iff .1 (zero-iff (chartTable s) tt .0 z, loop-unmet acc))
 
   accepted-unmet : AcceptedChart s → Unmet (acceptedTable s)
   accepted-unmet acc =

@@ -8,7 +8,7 @@ use native.Mathlib.Decide.{decLe}
 use lib.ListN.{length, set, List·getD-eq-default}
 use lib.Seq.{getD-set-same, getD-set-other}
 use borrow.Author.Count.{below-more}
-use Rattle.model.specs.Engine.{num, Numbers}
+use Rattle.model.specs.Engine.{num}
 
 -- one number more is cleared
 pub cleared-more :
@@ -22,6 +22,3 @@ cleared-more vs i l f =
 -- past the last there is no number, which reads as 0
 pub cleared-all : (vs : List ℕ) → ((s : ℕ) → s < length vs → num vs s ≡ 0) → (s : ℕ) → num vs s ≡ 0
 cleared-all vs f s = by-cases (decLe (length vs) s) (List·getD-eq-default vs 0) (λ h. f s (omega arith))
-
-pub cleared-numbers : {vs : List ℕ} {n : ℕ} (cap : ℕ) → length vs ≡ n → ((s : ℕ) → num vs s ≡ 0) → Numbers n cap vs
-cleared-numbers cap e zeros = record { size = e; capped = λ s. omega (arith, zeros s) }

@@ -1,11 +1,6 @@
-pub mod Bits
-pub mod Climb
-pub mod Loops
-pub mod Raised
-pub mod Climbed
 pub mod Cleared
-pub mod Decided
-pub mod Row
+pub mod Ticks
+pub mod LeftInTime
 pub mod Chain
 pub mod Accepted
 pub mod Scratch

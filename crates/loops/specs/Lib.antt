@@ -1,4 +1,3 @@
 pub mod Refusal
 pub mod Accepted
-pub mod Climb
-pub mod Climbed
+pub mod LeftInTime

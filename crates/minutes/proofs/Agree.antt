@@ -20,7 +20,7 @@ use Rattle.tctl.proofs.Unmet.{Unmet, unmet-weaken}
 use Rattle.model.specs.Decide.{ask, someRow, allRow}
 use Rattle.model.proofs.Row.{asked}
 use Rattle.model.proofs.Settles.{Settles, settles-iff}
-use Rattle.model.proofs.Untils.{some-path, all-passing}
+use Rattle.model.proofs.Untils.{some-path, all-until}
 use Rattle.minutes.specs.Untils.{rowOf, taskOf, beyondOf, finds, counted}
 use Rattle.minutes.proofs.Tests.{decide-same}
 use Rattle.minutes.proofs.Rounds.{makes-iff}
@@ -76,9 +76,8 @@ module _ {G : Chart} (dr : Drawn G) (live : Lively G) (p q : ℕ → Bool) (b : 
   beyond-unmet (never f same) k s h l e =
       let r = live s l in
       record {
-        run = r .0;
-        passing = r .1;
-        never = λ u. f (k + sum (r .0 .duration) (u .position)) (omega arith) (u .intime);
+        run = r;
+        never = λ u. f (k + sum (r .duration) (u .position)) (omega arith) (u .intime);
       }
   beyond-unmet (always f same) k s h l e =
       unmet-weaken (λ m i. omega arith) (plain-unmet dr live p q s l (sym (same s) ∙ e))
@@ -87,8 +86,8 @@ module _ {G : Chart} (dr : Drawn G) (live : Lively G) (p q : ℕ → Bool) (b : 
       Beyond (G .arrows) (states G) true p q b →
       (k s : ℕ) → rowOf b ≤ k → s < states G → fails-beyond s ≡ false → MetBy G p q b k s
   beyond-met (never f same) k s h l e = absurd (false≢true (sym e ∙ same s))
-  beyond-met (always f same) k s h l e = λ r g.
-      until-weaken (λ m i. f (k + m) (omega arith)) (plain-met dr live p q s l (sym (same s) ∙ e) r g)
+  beyond-met (always f same) k s h l e = λ r.
+      until-weaken (λ m i. f (k + m) (omega arith)) (plain-met dr live p q s l (sym (same s) ∙ e) r)
 
   counted-settles : Settles G p q b (tabulate (states G) (counted true b (G .arrows) (states G) p q))
   counted-settles =
@@ -111,4 +110,4 @@ module _ {G : Chart} (dr : Drawn G) (live : Lively G) (p q : ℕ → Bool) (b : 
       counted true b (G .arrows) (states G) p q s ≡ ask (allRow (G .arrows) (states G) b p q) s
   all-agree s l =
       sym (getD-tabulate (states G) (counted true b (G .arrows) (states G) p q) false s l) ∙
-      decide-same _ _ (settles-iff counted-settles s l) (all-passing dr p q s l live b)
+      decide-same _ _ (settles-iff counted-settles s l) (all-until dr p q s l live b)

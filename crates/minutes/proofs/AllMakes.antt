@@ -13,7 +13,7 @@ use Rattle.tctl.specs.Run.{Run, moment}
 use Rattle.tctl.specs.Formula.{Bound, Meets}
 use Rattle.tctl.proofs.Drawn.{Drawn, step-below}
 use Rattle.tctl.proofs.Run.{first, after, moment-after}
-use Rattle.tctl.proofs.Passes.{Passes, Lively, passes-rest}
+use Rattle.tctl.proofs.Passes.{Lively}
 use Rattle.tctl.proofs.Until.{Until, now, later}
 use Rattle.tctl.proofs.Unmet.{Unmet, unmet-here, unmet-ahead}
 use Rattle.minutes.specs.Makes.{Task, goesAt, Makes, stops, goes}
@@ -21,9 +21,9 @@ use Rattle.minutes.specs.Untils.{rowOf, metAt, taskOf}
 use Rattle.minutes.proofs.Tests.{nor-iff, three-ways}
 use Rattle.minutes.proofs.Bounds.{met-iff}
 
--- every run from s whose moments pass every number meets the until, if s has the moment k
+-- every run from s meets the until, if s has the moment k
 abbrev pub MetBy : Chart → (ℕ → Bool) → (ℕ → Bool) → Bound → ℕ → ℕ → Type 0
-MetBy G p q b k s = (r : Run G s) → Passes (r .duration) → Until (Yes p) (Yes q) b k (r .state) (r .duration)
+MetBy G p q b k s = (r : Run G s) → Until (Yes p) (Yes q) b k (r .state) (r .duration)
 
 module _
     {G : Chart}
@@ -66,24 +66,24 @@ module _
       turn (inl h) = absurd (none (stops h))
       turn (inr (inl h)) =
           let w = met-iff b q k m s e .0 h in
-          inl (λ c f. now (w .0) (subst (Yes q) (sym (c .starts)) (w .1)))
+          inl (λ c. now (w .0) (subst (Yes q) (sym (c .starts)) (w .1)))
       turn (inr (inr h)) = inr (omega arith, h .0, and-iff (p s) (not (metAt b q m s)) .1 h)
 
   -- Along the run, while the until is open: by position i, which is beyond the bound, it is settled.
   met-unless :
       (i k r : ℕ) {s : ℕ} → r ≡ rowOf b - k → s < states G → ¬ Makes G task r s →
-      (c : Run G s) → Passes (c .duration) → rowOf b ≤ k + moment c i →
+      (c : Run G s) → rowOf b ≤ k + moment c i →
       Until (Yes p) (Yes q) b k (c .state) (c .duration)
   unfolding sum
-  met-unless zero k r {s} e l none c f h =
-      ⊎-elim (λ w. w c f) (λ o. absurd (let z : ⊥ = omega (arith, o .0) in z)) (settled r k s e l none)
-  met-unless (suc i) k r {s} e l none c f h =
+  met-unless zero k r {s} e l none c h =
+      ⊎-elim (λ w. w c) (λ o. absurd (let z : ⊥ = omega (arith, o .0) in z)) (settled r k s e l none)
+  met-unless (suc i) k r {s} e l none c h =
       let d = c .duration 0 in
       let ih = met-unless i (k + d) (r - d) (omega arith) (step-below dr (first c)) in
-      ⊎-elim (λ w. w c f)
+      ⊎-elim (λ w. w c)
       (λ o.
       later (subst (Yes p) (sym (c .starts)) (o .1))
-      (ih (λ v. none (goes (o .2) (first c) v)) (after c) (passes-rest (c .duration) f)
+      (ih (λ v. none (goes (o .2) (first c) v)) (after c)
       (omega (arith, moment-after c i))))
       (settled r k s e l none)
 
@@ -91,6 +91,6 @@ module _
   all-unmet s l v = makes-unmet v 0 (omega arith) l
 
   pub all-met : (s : ℕ) → s < states G → ¬ Makes G task (rowOf b) s → MetBy G p q b 0 s
-  all-met s l none c f =
-      let i = f (rowOf b) in
-      met-unless (i .0) 0 (rowOf b) (omega arith) l none c f (omega (arith, i .1))
+  all-met s l none c =
+      let i = c .passes (rowOf b) in
+      met-unless (i .0) 0 (rowOf b) (omega arith) l none c (omega (arith, i .1))

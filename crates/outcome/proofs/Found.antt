@@ -1,5 +1,5 @@
 -- A place that may be none, of a search that goes on to the next number.
-use mathlib.Core.Path.{_≡_, refl, sym}
+use mathlib.Core.Path.{_≡_, refl}
 use mathlib.Core.Bool.{Bool, true, false, false≢true}
 use mathlib.Core.Option.{Option, none, some, Option·some-ne-none}
 use Prim.Native.Nat.{ℕ}
@@ -8,10 +8,6 @@ use Rattle.outcome.specs.Refusal.{found, orElse}
 pub found-some : (o : Option ℕ) → found o ≡ true → (i : ℕ) × (o ≡ some i)
 found-some (some i) e = (i, refl)
 found-some none e = absurd (false≢true e)
-
-pub found-none : (o : Option ℕ) → found o ≡ false → o ≡ none
-found-none (some i) e = absurd (false≢true (sym e))
-found-none none e = refl
 
 pub or-none : (o : Option ℕ) (b : Bool) (i : ℕ) → orElse o b i ≡ none → (o ≡ none) × (b ≡ false)
 or-none (some j) b i e = absurd (Option·some-ne-none j e)

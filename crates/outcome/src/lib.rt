@@ -61,7 +61,7 @@ pub const MARKS_TABLE: u32 = 17;
 
 pub const SCRATCH: u32 = 18;
 
-pub const ZERO_LOOP: u32 = 19;
+pub const NO_TIMED_LOOP: u32 = 19;
 
 pub const NO_MAP: u32 = 20;
 

@@ -37,7 +37,7 @@ module _ {G : Chart} (acc : Accepted G) where
       {B L : ℕ → ℕ → Type 0} {k s : ℕ} {shown : List Position} → s < states G → Along G B L k s shown →
       (r : Run G s) × Begins shown r
   begun-along l (ends {s = s} h) =
-      let r = lively acc s l .0 in (
+      let r = lively acc s l in (
         r,
         record {
           states = elim [ zero ↦ λ i. r .starts | suc j ↦ λ i. absurd (let z : ⊥ = omega arith in z) ];

@@ -16,7 +16,6 @@ use Rattle.tctl.specs.Formula.{Bound, atMost, atLeast, Formula, always, label, 
 use Rattle.tctl.specs.Accepted.{Accepted}
 use Rattle.tctl.proofs.Drawn.{accepted-drawn}
 use Rattle.tctl.proofs.Lively.{lively}
-use Rattle.tctl.proofs.Passing.{passes}
 use Rattle.tctl.proofs.SomeUntil.{some-iff-path}
 use Rattle.tctl.proofs.AllAtMost.{Late, met-unless-late}
 use Rattle.tctl.proofs.Until.{met-iff-until, met-map}
@@ -63,7 +62,7 @@ module _ {G : Chart} (acc : Accepted G) where
   showable-reason (and f g) low w = absurd w
   showable-reason (or f g) low w = absurd w
   showable-reason (someUntil b f g) {s} low w =
-      let p = some-iff-path (accepted-drawn acc) (lively acc) s low .0 (w .0, passes acc s low (w .0), w .1) in
+      let p = some-iff-path (accepted-drawn acc) (lively acc) s low .0 w in
       let v = some-shown b (p .0) (p .1) in
       (v .0, some-along .1 (v .1))
   showable-reason (allUntil (atMost c) f g) {s} low w =
@@ -77,7 +76,7 @@ module _ {G : Chart} (acc : Accepted G) where
       absurd (w (λ r.
       met-map dr (λ x l. holds-iff G acc f x l .0) (λ x l. holds-iff G acc g x l .0) low r
       (met-iff-until r .1
-      (met-unless-late (yes-dec (holds G f)) (yes-dec (holds G g)) (omega arith) none r (passes acc s low r))))))
+      (met-unless-late (yes-dec (holds G f)) (yes-dec (holds G g)) (omega arith) none r)))))
   showable-reason (allUntil (atLeast c) f g) low w = absurd w
 
   pub reason-iff :

@@ -13,7 +13,7 @@ use Rattle.tctl.specs.Formula.{atLeast}
 use Rattle.tctl.proofs.Drawn.{Drawn, step-below}
 use Rattle.tctl.specs.Path.{Path, stop, step, minutes}
 use Rattle.tctl.proofs.Run.{first, after, moment-after}
-use Rattle.tctl.proofs.Passes.{Passes, Lively, passes-rest}
+use Rattle.tctl.proofs.Passes.{Lively}
 use Rattle.tctl.proofs.Until.{Until, later, until-weaken}
 use Rattle.tctl.proofs.Unmet.{Unmet, unmet-here, unmet-ahead, unmet-weaken}
 
@@ -26,7 +26,7 @@ pub data Open (G : Chart) (P Q : ℕ → Type 0) (s : ℕ) : Type 0 where
 pub record Sure (G : Chart) (P Q : ℕ → Type 0) (s : ℕ) : Type 0 where
   pub holds : P s
   pub onward :
-      {d t : ℕ} → Step G s d t → (r : Run G t) → Passes (r .duration) → Until P Q (atLeast 0) 0 (r .state) (r .duration)
+      {d t : ℕ} → Step G s d t → (r : Run G t) → Until P Q (atLeast 0) 0 (r .state) (r .duration)
 
 module _ {G : Chart} (dr : Drawn G) {P Q go bad : ℕ → Type 0} {c : ℕ} where
   -- before the moment c it is not met, and after the path it may fail
@@ -50,19 +50,16 @@ module _ {G : Chart} (dr : Drawn G) {P Q go bad : ℕ → Type 0} {c : ℕ} wher
     -- comes to c the until is met with no bound.
     met-from :
         (i k : ℕ) {s : ℕ} → s < states G → k < c → ((p : Path G go bad s) → c ≤ k + minutes p) →
-        (r : Run G s) → Passes (r .duration) → c ≤ k + moment r i → Until P Q (atLeast c) k (r .state) (r .duration)
+        (r : Run G s) → c ≤ k + moment r i → Until P Q (atLeast c) k (r .state) (r .duration)
     unfolding sum
-    met-from zero k l m far r f h = absurd (let z : ⊥ = omega arith in z)
-    met-from (suc i) k {s} l m far r f h =
+    met-from zero k l m far r h = absurd (let z : ⊥ = omega arith in z)
+    met-from (suc i) k {s} l m far r h =
         turn
-        (λ n w. met-from i (k + d) (step-below dr (first r)) n w (after r) passing (omega (arith, moment-after r i)))
+        (λ n w. met-from i (k + d) (step-below dr (first r)) n w (after r) (omega (arith, moment-after r i)))
         (sure s l)
       where
         d : ℕ
         d = r .duration 0
-
-        passing : Passes (after r .duration)
-        passing = passes-rest (r .duration) f
 
         Rest : Type 0
         Rest = Until P Q (atLeast c) (k + d) (after r .state) (after r .duration)
@@ -75,15 +72,14 @@ module _ {G : Chart} (dr : Drawn G) {P Q go bad : ℕ → Type 0} {c : ℕ} wher
         turn ih (inr y) = later (subst P (sym (r .starts)) (y .holds)) (by-cases (decLe c (k + d)) due early)
           where
             due : c ≤ k + d → Rest
-            due n = until-weaken (λ m i. omega arith) (y .onward (first r) (after r) passing)
+            due n = until-weaken (λ m i. omega arith) (y .onward (first r) (after r))
 
             early : ¬ (c ≤ k + d) → Rest
             early n = ih (omega arith) (λ p. let z = far (step (all s) (first r) p) in omega arith)
 
     pub met-unless-early :
         {s : ℕ} → s < states G → 0 < c → ((p : Path G go bad s) → c ≤ minutes p) →
-        (r : Run G s) → Passes (r .duration) →
-        Until P Q (atLeast c) 0 (r .state) (r .duration)
-    met-unless-early l m far r f =
-        let x = f c in
-        met-from (x .0) 0 l m (λ p. let z = far p in omega arith) r f (omega (arith, x .1))
+        (r : Run G s) → Until P Q (atLeast c) 0 (r .state) (r .duration)
+    met-unless-early l m far r =
+        let x = r .passes c in
+        met-from (x .0) 0 l m (λ p. let z = far p in omega arith) r (omega (arith, x .1))

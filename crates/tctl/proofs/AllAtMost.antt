@@ -11,7 +11,7 @@ use Rattle.tctl.specs.Formula.{Bound, atMost}
 use Rattle.tctl.proofs.Drawn.{Drawn, step-below}
 use Rattle.tctl.specs.Path.{Path, stop, step, minutes, Any}
 use Rattle.tctl.proofs.Run.{first, after, moment-after}
-use Rattle.tctl.proofs.Passes.{Passes, Lively}
+use Rattle.tctl.proofs.Passes.{Lively}
 use Rattle.tctl.proofs.Until.{Until, now, later}
 use Rattle.tctl.proofs.Unmet.{Unmet, unmet-here, unmet-ahead}
 
@@ -38,9 +38,7 @@ module _ {G : Chart} (dr : Drawn G) (live : Lively G) {P Q : ℕ → Type 0} whe
   lasts-unmet :
       {c : ℕ} (k : ℕ) {s : ℕ} → s < states G → (p : Path G (Waits P Q) Any s) → c < k + minutes p →
       Unmet G P Q (atMost c) k s
-  lasts-unmet k l (stop {s} t) h =
-      let r = live s l in
-      record { run = r .0; passing = r .1; never = λ u. omega arith }
+  lasts-unmet k l (stop {s} t) h = record { run = live s l; never = λ u. omega arith }
   lasts-unmet k l (step {d = d} g x p) h =
       unmet-ahead (λ m. g .1) x (lasts-unmet (k + d) (step-below dr x) p (omega arith))
 
@@ -87,6 +85,5 @@ module _
           later (subst P (sym (r .starts)) p) (ih (λ w. no-late (late-ahead (p, q) (first r) w)))
 
   pub met-unless-late :
-      {s : ℕ} → ¬ Late G P Q m 0 s → (r : Run G s) → Passes (r .duration) →
-      Until P Q (atMost c) 0 (r .state) (r .duration)
-  met-unless-late no-late r f = let x = f c in met-by (x .0) 0 no-late r (omega (arith, x .1))
+      {s : ℕ} → ¬ Late G P Q m 0 s → (r : Run G s) → Until P Q (atMost c) 0 (r .state) (r .duration)
+  met-unless-late no-late r = let x = r .passes c in met-by (x .0) 0 no-late r (omega (arith, x .1))

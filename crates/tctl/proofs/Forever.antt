@@ -4,12 +4,11 @@ use Prim.Native.Nat.{ℕ, zero, suc, _+_, _≤_}
 use native.Mathlib.Omega.{arith}
 use Rattle.base.specs.Sum.{sum}
 use Rattle.tctl.specs.Chart.{Chart}
-use Rattle.tctl.specs.Run.{Run, Step}
+use Rattle.tctl.specs.Run.{Passes, Run, Step}
 use Rattle.tctl.specs.Path.{Path, stop, step, To, minutes}
 use Rattle.tctl.proofs.Path.{step-cast}
 use Rattle.tctl.proofs.Run.{paces, unroll}
 use Rattle.base.proofs.Sum.{sum-suc}
-use Rattle.tctl.proofs.Passes.{Passes}
 
 -- a loop: a step from u, and the way back to u
 module _ {G : Chart} {go : ℕ → Type 0} {u d t : ℕ} (g : go u) (x : Step G u d t) (back : Path G go (To u) t) where
@@ -44,21 +43,21 @@ module _ {G : Chart} {go : ℕ → Type 0} {u d t : ℕ} (g : go u) (x : Step G 
   passes : 1 ≤ d + minutes back → {s : ℕ} (p : Path G go (To u) s) → Passes (pace p)
   passes long p c = let z = passes-on (suc c) (passes-from long (suc c)) p in (z .0, omega (arith, z .1))
 
-  abbrev round : {s : ℕ} → Path G go (To u) s → Run G s
-  round {s} p = unroll {S = Left} (λ w. w .0) (λ w. onward (w .1)) (s, p)
+  abbrev round : 1 ≤ d + minutes back → {s : ℕ} → Path G go (To u) s → Run G s
+  round long {s} p = unroll {S = Left} (λ w. w .0) (λ w. onward (w .1)) (s, p) (passes long p)
 
   goes-now : {s : ℕ} → Path G go (To u) s → go s
   goes-now (stop e) = subst go (sym e) g
   goes-now (step h y p) = h
 
-  goes : {s : ℕ} (p : Path G go (To u) s) (i : ℕ) → go (round p .state i)
-  goes p zero = goes-now p
-  goes p (suc i) = goes (onward p .0 .1) i
+  goes : (long : 1 ≤ d + minutes back) {s : ℕ} (p : Path G go (To u) s) (i : ℕ) → go (round long p .state i)
+  goes long p zero = goes-now p
+  goes long p (suc i) = goes long (onward p .0 .1) i
 
 -- a path to a loop that takes a minute, and round the loop for ever: every state satisfies go
 pub forever :
     {G : Chart} {go : ℕ → Type 0} {u : ℕ} (loop : Path G go (To u) u) →
     1 ≤ minutes loop →
-    {s : ℕ} (stem : Path G go (To u) s) → (r : Run G s) × Passes (r .duration) × ((i : ℕ) → go (r .state i))
+    {s : ℕ} (stem : Path G go (To u) s) → (r : Run G s) × ((i : ℕ) → go (r .state i))
 forever (stop e) long stem = absurd (let z : ⊥ = omega arith in z)
-forever (step g x back) long stem = (round g x back stem, passes g x back long stem, goes g x back stem)
+forever (step g x back) long stem = (round g x back long stem, goes g x back long stem)

@@ -1,13 +1,11 @@
 pub mod Drawn
 pub mod Path
-pub mod Run
 pub mod Passes
+pub mod Run
 pub mod Prefix
 pub mod Loop
-pub mod Instant
-pub mod Passing
-pub mod Lively
 pub mod Forever
+pub mod Lively
 pub mod Until
 pub mod SomeUntil
 pub mod Unmet

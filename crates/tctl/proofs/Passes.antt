@@ -1,20 +1,19 @@
--- Durations whose moments pass every number.
+-- Durations whose moments pass every number, with one more in front and without the first.
 use Prim.Native.Nat.{ℕ, zero, suc, _+_, _<_}
 use native.Mathlib.Omega.{arith}
 use Rattle.base.specs.Sum.{sum}
 use Rattle.tctl.specs.Chart.{Chart, states}
-use Rattle.tctl.specs.Run.{Run}
-use Rattle.tctl.proofs.Run.{front}
+use Rattle.tctl.specs.Run.{Passes, Run}
 use Rattle.base.proofs.Sum.{sum-suc}
 
--- the moments of a run with these durations pass every number: said of durations, so that it can be shown before there
--- is a run
-abbrev pub Passes : (ℕ → ℕ) → Type 0
-Passes d = (c : ℕ) → (i : ℕ) × c < sum d i
-
--- every state has a run whose moments pass every number
+-- every state has a run
 abbrev pub Lively : Chart → Type 0
-Lively G = (s : ℕ) → s < states G → (r : Run G s) × Passes (r .duration)
+Lively G = (s : ℕ) → s < states G → Run G s
+
+-- a sequence with a in front
+abbrev pub front : ℕ → (ℕ → ℕ) → ℕ → ℕ
+front a f zero = a
+front a f (suc i) = f i
 
 pub passes-front : (a : ℕ) (f : ℕ → ℕ) → Passes f → Passes (front a f)
 passes-front a f h c =

@@ -3,21 +3,23 @@ use mathlib.Core.Path.{_≡_, refl, sym, subst}
 use Prim.Native.Nat.{ℕ, zero, suc, _+_, _<_}
 use Rattle.base.proofs.Sum.{sum-suc}
 use Rattle.tctl.specs.Chart.{Chart, states}
-use Rattle.tctl.specs.Run.{Run, Step, moment}
+use Rattle.tctl.specs.Run.{Passes, Run, Step, moment}
 use Rattle.tctl.proofs.Drawn.{Drawn, step-below}
 use Rattle.tctl.proofs.Path.{step-cast}
-
--- a sequence with a in front
-abbrev pub front : ℕ → (ℕ → ℕ) → ℕ → ℕ
-front a f zero = a
-front a f (suc i) = f i
+use Rattle.tctl.proofs.Passes.{front, passes-front, passes-rest}
 
 module _ {G : Chart} where
   -- ── A step and then a run ──
 
   abbrev pub ahead : {s d t : ℕ} → Step G s d t → Run G t → Run G s
   ahead {s} {d} {t} x r =
-      record { state = front s (r .state); duration = front d (r .duration); starts = refl; moves = moves }
+      record {
+        state = front s (r .state);
+        duration = front d (r .duration);
+        starts = refl;
+        moves = moves;
+        passes = passes-front d (r .duration) (r .passes);
+      }
     where
       moves : (i : ℕ) → Step G (front s (r .state) i) (front d (r .duration) i) (front s (r .state) (suc i))
       moves zero = step-cast refl (r .starts) x
@@ -35,6 +37,7 @@ module _ {G : Chart} where
         duration = λ i. r .duration (suc i);
         starts = refl;
         moves = λ i. r .moves (suc i);
+        passes = passes-rest (r .duration) (r .passes);
       }
 
   pub moment-after : {s : ℕ} (r : Run G s) (i : ℕ) → moment r (suc i) ≡ r .duration 0 + moment (after r) i
@@ -45,14 +48,14 @@ module _ {G : Chart} where
   run-below dr l r zero = subst (λ u. u < states G) (sym (r .starts)) l
   run-below dr l r (suc i) = step-below dr (r .moves i)
 
--- ── The run of a rule that knows a next step for every x ──
+-- ── The run of a rule that knows a next step for every x, if its durations pass every number ──
 
 module _ {G : Chart} {S : Type 0} (at : S → ℕ) (next : (x : S) → (y : S) × (d : ℕ) × Step G (at x) d (at y)) where
-  abbrev walk : S → ℕ → S
+  abbrev pub walk : S → ℕ → S
   walk x zero = x
   walk x (suc i) = walk (next x .0) i
 
-  abbrev moves : (x : S) (i : ℕ) → Step G (at (walk x i)) (next (walk x i) .1) (at (walk x (suc i)))
+  abbrev pub moves : (x : S) (i : ℕ) → Step G (at (walk x i)) (next (walk x i) .1) (at (walk x (suc i)))
   moves x zero = next x .2
   moves x (suc i) = moves (next x .0) i
 
@@ -60,5 +63,5 @@ module _ {G : Chart} {S : Type 0} (at : S → ℕ) (next : (x : S) → (y : S) �
   abbrev pub paces : S → ℕ → ℕ
   paces x i = next (walk x i) .1
 
-  abbrev pub unroll : (x : S) → Run G (at x)
-  unroll x = record { state = λ i. at (walk x i); duration = paces x; starts = refl; moves = moves x }
+  abbrev pub unroll : (x : S) → Passes (paces x) → Run G (at x)
+  unroll x f = record { state = λ i. at (walk x i); duration = paces x; starts = refl; moves = moves x; passes = f }

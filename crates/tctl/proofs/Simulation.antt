@@ -47,6 +47,7 @@ module _ {D O : Chart} {f : ℕ → ℕ} (dr : Drawn D) (det : Detail D O f) whe
         duration = r .duration;
         starts = ap f (r .starts);
         moves = λ i. step-seen (r .moves i);
+        passes = r .passes;
       }
 
   -- an until along the run seen is the until of the mapped states along the run

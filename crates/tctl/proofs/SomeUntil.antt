@@ -10,7 +10,7 @@ use Rattle.tctl.specs.Holds.{Met}
 use Rattle.tctl.proofs.Drawn.{Drawn, step-below}
 use Rattle.tctl.specs.Path.{Path, stop, step, minutes}
 use Rattle.tctl.proofs.Run.{ahead}
-use Rattle.tctl.proofs.Passes.{Passes, Lively, passes-front}
+use Rattle.tctl.proofs.Passes.{Lively}
 use Rattle.tctl.proofs.Prefix.{prefix}
 use Rattle.tctl.proofs.Until.{Until, now, later, met-iff-until}
 
@@ -18,30 +18,30 @@ module _ {G : Chart} (dr : Drawn G) (live : Lively G) {P Q : ℕ → Type 0} {b 
   -- the path, and then any run
   run-of-path :
       (k : ℕ) {s : ℕ} → s < states G → (p : Path G P Q s) → Meets b (k + minutes p) →
-      (r : Run G s) × Passes (r .duration) × Until P Q b k (r .state) (r .duration)
+      (r : Run G s) × Until P Q b k (r .state) (r .duration)
   run-of-path k l (stop {s} q) m =
       let r = live s l in
       let e : k + 0 ≡ k = omega arith in
-      (r .0, r .1, now (subst (Meets b) e m) (subst Q (sym (r .0 .starts)) q))
+      (r, now (subst (Meets b) e m) (subst Q (sym (r .starts)) q))
   run-of-path k l (step {d = d} g x p) m =
       let e : k + (d + minutes p) ≡ k + d + minutes p = omega arith in
       let r = run-of-path (k + d) (step-below dr x) p (subst (Meets b) e m) in
-      (ahead x (r .0), passes-front d (r .0 .duration) (r .1), later g (r .2))
+      (ahead x (r .0), later g (r .1))
 
   -- The first steps of such a run, up to the position, are the path. A path, and any run after it, is such a run.
   pub some-iff-path :
       (s : ℕ) → s < states G →
-      ((r : Run G s) × Passes (r .duration) × Met G P Q b s r) ↔ ((p : Path G P Q s) × Meets b (minutes p))
+      ((r : Run G s) × Met G P Q b s r) ↔ ((p : Path G P Q s) × Meets b (minutes p))
   some-iff-path s l = (down, up)
     where
-      down : (r : Run G s) × Passes (r .duration) × Met G P Q b s r → (p : Path G P Q s) × Meets b (minutes p)
+      down : (r : Run G s) × Met G P Q b s r → (p : Path G P Q s) × Meets b (minutes p)
       down h =
-          let m = h .2 in
+          let m = h .1 in
           let p = prefix (h .0) (m .position) (m .there) (m .before) in
           (p .0, subst (Meets b) (sym (p .2)) (m .intime))
 
-      up : (p : Path G P Q s) × Meets b (minutes p) → (r : Run G s) × Passes (r .duration) × Met G P Q b s r
+      up : (p : Path G P Q s) × Meets b (minutes p) → (r : Run G s) × Met G P Q b s r
       up h =
           let e : minutes (h .0) ≡ 0 + minutes (h .0) = omega arith in
           let r = run-of-path 0 l (h .0) (subst (Meets b) e (h .1)) in
-          (r .0, r .1, met-iff-until (r .0) .1 (r .2))
+          (r .0, met-iff-until (r .0) .1 (r .1))

@@ -6,13 +6,11 @@ use Rattle.tctl.specs.Chart.{Chart}
 use Rattle.tctl.specs.Run.{Run, Step}
 use Rattle.tctl.specs.Formula.{Bound, Meets}
 use Rattle.tctl.proofs.Run.{ahead}
-use Rattle.tctl.proofs.Passes.{Passes, passes-front}
 use Rattle.tctl.proofs.Until.{Until, now-or-later, until-weaken}
 
--- a run from s whose moments pass every number, along which the until is not met if s has the moment k
+-- a run from s along which the until is not met if s has the moment k
 pub record Unmet (G : Chart) (P Q : ℕ → Type 0) (b : Bound) (k s : ℕ) : Type 0 where
   pub run : Run G s
-  pub passing : Passes (run .duration)
   pub never : ¬ Until P Q b k (run .state) (run .duration)
 
 pub unmet-weaken :
@@ -21,16 +19,15 @@ pub unmet-weaken :
     Unmet G P Q b k s →
     Unmet G P Q b′ k′ s
 unmet-weaken f u =
-    record { run = u .run; passing = u .passing; never = λ w. u .never (until-weaken f w) }
+    record { run = u .run; never = λ w. u .never (until-weaken f w) }
 
 module _ {G : Chart} {P Q : ℕ → Type 0} {b : Bound} {k s : ℕ} (not-now : Meets b k → ¬ Q s) where
   -- P is missing at s, so that it is met neither now nor later
-  pub unmet-here : ¬ P s → (r : Run G s) × Passes (r .duration) → Unmet G P Q b k s
+  pub unmet-here : ¬ P s → Run G s → Unmet G P Q b k s
   unmet-here f r =
-      let e = r .0 .starts in
+      let e = r .starts in
       record {
-        run = r .0;
-        passing = r .1;
+        run = r;
         never = λ u.
             ⊎-elim (λ h. not-now (h .0) (subst Q e (h .1))) (λ h. f (subst P e (h .0))) (now-or-later u);
       }
@@ -40,6 +37,5 @@ module _ {G : Chart} {P Q : ℕ → Type 0} {b : Bound} {k s : ℕ} (not-now : M
   unmet-ahead {d} x u =
       record {
         run = ahead x (u .run);
-        passing = passes-front d (u .run .duration) (u .passing);
         never = λ w. ⊎-elim (λ h. not-now (h .0) (h .1)) (λ h. u .never (h .1)) (now-or-later w);
       }

@@ -15,7 +15,6 @@ use Rattle.ways.specs.declared.Way.{Way}
 use Rattle.engine.specs.AsModel.{Prepared}
 use Rattle.until_start.specs.Lent.{Lent, Able}
 use Rattle.operands.specs.FromOperands.{OperandsBelow}
-use Rattle.operands.proofs.Rows.{lent, lent-length}
 
 -- the arrows join states, and so they do if they weigh ticks
 pub joins :
@@ -37,14 +36,13 @@ pub rows-inside :
     (count ≡ n) × (w .a * n + n ≤ size) × (w .b * n + n ≤ size)
 rows-inside n low e h = (e, omega (arith, row-below n (low .left)), omega (arith, row-below n (low .right)))
 
--- row t, and numbers with sides: what the engine asks for
+-- numbers with sides: what the engine asks for
 pub lent-row :
     {way : Way} {chart : List ℕ} {n m t : ℕ} {marks numbers : List ℕ} → Lent chart n m t marks numbers →
-    Able way numbers → Prepared way chart n m (lent (t * n) n marks) numbers
-lent-row {n = n} {t = t} {marks} l able =
+    Able way numbers → Prepared way chart n m numbers
+lent-row l able =
     record {
       given = record { passed = l .passed; size = l .size; fits = able .fits };
-      wide = lent-length (t * n) n marks (l .table);
       go = able .go;
       ready = able .ready;
     }

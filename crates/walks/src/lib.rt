@@ -1,5 +1,5 @@
-// Walks along the hints: numbers rise by passes in the order of states, and by walks from state to state and back. A row
-// of marks is lent for the walks.
+// Walks along the hints: numbers rise by passes in the order of states, and by walks from state to state and back. A row is
+// lent for the states of a walk; it may have any length, and a walk ends where it does.
 ghost use mathlib.Core.Path.{_≡_};
 ghost use mathlib.Core.Bool.{true};
 ghost use Prim.Native.Nat.{_≤_, _<_};
@@ -49,7 +49,8 @@ fn ends(seen: bool, x: u32) -> bool {
     hints::marked(x) == seen
 }
 
-// A walk along the hints, of n states at most. The row has its states, and their marks are turned.
+// A walk along the hints, of as many states at most as the row has room for. The row has its states, and their marks are
+// turned.
 fn trail(
     seen: bool,
     chart: &[u8],
@@ -59,12 +60,13 @@ fn trail(
     row: &mut [u8],
     numbers: &mut [u32],
 ) -> Steps
-    requires { ⌜ Passed (now chart) n m × (length (now numbers) ≡ n) × (length (now row) ≡ n) × (from < n) ⌝ }
-    ensures { λ r. ⌜ Remarked (now (numbers .entry)) (now (numbers .exit)) × (r .at < n) × (r .count ≤ n) ⌝ }
+    requires { ⌜ Passed (now chart) n m × (length (now numbers) ≡ n) × (from < n) ⌝ }
+    ensures { λ r. ⌜ Remarked (now (numbers .entry)) (now (numbers .exit)) × (r .at < n)
+        × (r .count ≤ length (now (row .entry))) ⌝ }
 {
     let mut at = from;
     let mut k = 0;
-    while k < n {
+    while k < row.len() {
         let x = numbers[at];
         let i = hints::hint(x);
         if ends(seen, x) | (m <= i) {
@@ -82,7 +84,7 @@ fn trail(
 // The walk back: the hints of the states that the row has are tried, from the last of them to the first. The row is not
 // taken on trust.
 fn back(way: Way, chart: &[u8], n: usize, m: usize, count: usize, row: &[u8], numbers: &mut [u32])
-    requires { ⌜ Given way (now chart) n m (now numbers) × (length (now row) ≡ n) × (count ≤ n) ⌝ }
+    requires { ⌜ Given way (now chart) n m (now numbers) × (count ≤ length (now row)) ⌝ }
     ensures { λ _. ⌜ Walks way (now (chart .entry)) m true (now (numbers .entry)) (now (numbers .exit)) ⌝ }
 {
     let mut k = count;
@@ -107,7 +109,7 @@ fn walk_from(
     row: &mut [u8],
     numbers: &mut [u32],
 )
-    requires { ⌜ Given way (now chart) n m (now numbers) × (length (now row) ≡ n) × (s < n) ⌝ }
+    requires { ⌜ Given way (now chart) n m (now numbers) × (s < n) ⌝ }
     ensures { λ _. ⌜ Walks way (now (chart .entry)) m true (now (numbers .entry)) (now (numbers .exit)) ⌝ }
 {
     let t = trail(seen, chart, n, m, s, row, numbers);
@@ -117,7 +119,7 @@ fn walk_from(
 
 // A walk from each state that was not met on one of them.
 fn walk(way: Way, seen: bool, chart: &[u8], n: usize, m: usize, row: &mut [u8], numbers: &mut [u32])
-    requires { ⌜ Given way (now chart) n m (now numbers) × (length (now row) ≡ n) ⌝ }
+    requires { ⌜ Given way (now chart) n m (now numbers) ⌝ }
     ensures { λ _. ⌜ Walks way (now (chart .entry)) m true (now (numbers .entry)) (now (numbers .exit)) ⌝ }
 {
     let mut s = 0;
@@ -154,7 +156,7 @@ pub fn along(
     row: &mut [u8],
     numbers: &mut [u32],
 ) -> Track
-    requires { ⌜ Given way (now chart) n m (now numbers) × (length (now row) ≡ n) ⌝ }
+    requires { ⌜ Given way (now chart) n m (now numbers) ⌝ }
     ensures { λ r. ⌜ Walks way (now (chart .entry)) m (r .moved) (now (numbers .entry)) (now (numbers .exit)) ⌝ }
 {
     if !pass(way, true, chart, n, m, numbers) {

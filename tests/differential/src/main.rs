@@ -3,8 +3,8 @@
 //! Without options: the named cases of the paper, large charts, then 430,000 random cases with a fixed seed.
 //! `--long [COUNT]` runs more (5,000,000), `--seed S` others, `--case I` one by its number, `--named I` one of the
 //! named and large ones by its number, `--replay CASE` the one whose line a difference printed. The status is 1 if
-//! anything differs, or a number of the refusal table, or what a shown run or a count can be, was never met, 2 if the options
-//! are wrong. A count is also compared with the library's own check.
+//! anything differs, or a number of the refusal table, what a shown run or a count can be, or a loop that can be taken in no
+//! time was never met, 2 if the options are wrong. A count is also compared with the library's own check.
 //!
 //! `--programs DIR` runs the programs desk, desk_test_calls and desk_why of that folder instead and compares all they print
 //! with the oracle's texts, or has the oracle judge it where several runs are right: on the named pairs of files, then on

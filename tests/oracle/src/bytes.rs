@@ -1,6 +1,7 @@
 //! Big-endian numbers out of lent bytes.
 //!
-//! What lies past the end reads as 0: each row of the refusal table is then safe on any bytes by itself.
+//! What lies past the end reads as 0: each row of the refusal table is then safe on any bytes by itself, except 19, which
+//! is asked only after rows 1 to 9.
 
 pub fn byte_at(bytes: &[u8], at: usize) -> u8 {
     bytes.get(at).copied().unwrap_or(0)

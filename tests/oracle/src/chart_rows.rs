@@ -2,7 +2,7 @@
 
 use crate::bytes::{states_real_length, version};
 use crate::chart::{arrow_count, arrows, state_count};
-use crate::loops::lowest_on_instant_loop;
+use crate::loops::lowest_without_timed_loop;
 use crate::refusals::{at_0, Case};
 
 pub fn under_9_bytes(case: &Case<'_>) -> Option<usize> {
@@ -48,6 +48,6 @@ pub fn state_without_arrow(case: &Case<'_>) -> Option<usize> {
     left.iter().position(|&has_arrow| !has_arrow)
 }
 
-pub fn instant_loop(case: &Case<'_>) -> Option<usize> {
-    lowest_on_instant_loop(case.chart)
+pub fn no_timed_loop_reached(case: &Case<'_>) -> Option<usize> {
+    lowest_without_timed_loop(case.chart)
 }

@@ -1,4 +1,7 @@
 //! Whether bytes are a true reason, from the papers' words and without a search.
+//!
+//! A reason goes on to a run that counts. That isn't asked of the bytes: row 19 lets every way on an accepted chart go
+//! on so, from any state at which it ends.
 
 use crate::asked::{with_asked, Asked};
 use crate::chart::NO_END;

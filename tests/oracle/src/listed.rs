@@ -1,5 +1,6 @@
 //! The list of states for one number of minutes left: for E those with a run that makes the until, for A those with a
-//! run that fails it. So for both, one arrow with one duration that leads to a listed state is enough.
+//! run that fails it, of the runs that count. So for both, one arrow with one duration that leads to a listed state is
+//! enough.
 
 use crate::chart::Arrow;
 use crate::until::Until;

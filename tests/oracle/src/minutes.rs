@@ -17,8 +17,8 @@ pub fn by_minutes(until: &Until<'_>, row: &mut [u8]) {
     }
 }
 
-/// The list for so many minutes left, from the lists for fewer. What takes 0 minutes stays within this list. A way that
-/// stays there for ever is no run, so nothing is listed for that.
+/// The list for so many minutes left, from the lists for fewer. What takes 0 minutes stays within this list. A run that
+/// stays there for ever doesn't count, so nothing is listed for that.
 fn minute(until: &Until<'_>, left: usize, fewer: &[Listed]) -> Listed {
     if !until.at_most && left == 0 {
         return unbounded(until);

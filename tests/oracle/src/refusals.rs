@@ -49,7 +49,7 @@ const TABLE: [(u32, Offender); 24] = [
     (16, rule::not_used_once),
     (17, rule::marks_short),
     (18, rule::scratch_short),
-    (19, chart::instant_loop),
+    (19, chart::no_timed_loop_reached),
     (20, map::map_wrong),
     (21, map::entry_names_no_state),
     (22, map::labels_differ),

@@ -1,6 +1,7 @@
 //! The fewest steps of a true reason: pairs of a state and a minute, visited layer by layer and each once.
 //!
-//! The minute is capped at c + 1, as where the untils are settled: more minutes change nothing.
+//! The minute is capped at c + 1, as where the untils are settled: more minutes change nothing. Whatever pair a reason
+//! ends at, row 19 lets it go on to a run that counts.
 
 use crate::asked::Asked;
 use crate::chart::Arrow;

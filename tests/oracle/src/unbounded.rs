@@ -1,6 +1,7 @@
 //! "At least" with nothing left to wait: the until with no bound.
 
 use crate::listed::{begin, follow, Listed};
+use crate::reach::reached;
 use crate::until::Until;
 use crate::verdict::Verdict;
 
@@ -11,22 +12,10 @@ pub fn unbounded(until: &Until<'_>) -> Listed {
     list
 }
 
-/// Whether an arrow with most above 0 leads from this waiting state, and waiting states lead back to it: a run that
-/// keeps to this loop passes every moment. One on which no time can pass wouldn't be a run.
+/// Whether an arrow with most above 0 leads from this waiting state, and waiting states lead back to it: the moments of
+/// a run that keeps to this loop can pass every number. On a loop without such an arrow no run counts.
 fn waits_for_ever(until: &Until<'_>, state: usize) -> bool {
-    let mut time_passes = until.leaving.state(state).iter().filter(|arrow| arrow.most > 0);
-    time_passes.any(|arrow| waiting(until, usize::from(arrow.end))[state])
-}
-
-/// The states, this one too, to which waiting states lead from here; all of them wait.
-fn waiting(until: &Until<'_>, from: usize) -> Vec<bool> {
-    let mut come_to = vec![false; until.leaving.state_count()];
-    let mut open = vec![from];
-    while let Some(state) = open.pop() {
-        if !come_to[state] && until.verdict(state, 0) == Verdict::GoesOn {
-            come_to[state] = true;
-            open.extend(until.leaving.state(state).iter().map(|arrow| usize::from(arrow.end)));
-        }
-    }
-    come_to
+    let waits = |state: u16| until.verdict(usize::from(state), 0) == Verdict::GoesOn;
+    let leads_back = |end: u16| reached(until.leaving, usize::from(end), |arrow| waits(arrow.start))[state];
+    until.leaving.state(state).iter().any(|arrow| arrow.most > 0 && leads_back(arrow.end))
 }

@@ -1,7 +1,10 @@
-//! Both untils as least fixpoints over pairs of a state and a minute, the minute capped at c + 1.
+//! Both untils as fixpoints over pairs of a state and a minute, the minute capped at c + 1.
 //!
 //! E: Q and bound met, or P and some next. A: Q and bound met, or P and every next.
 //! A step never lowers the minute, so the minutes are finished one by one from c + 1 down.
+//!
+//! "A run counts only if its moments pass every number." E is a least fixpoint: row 19 lets every way go on to a run that
+//! counts. For A see `every_run`.
 
 use crate::chart::{Arrow, NO_END};
 use crate::leaving::Leaving;
@@ -30,7 +33,10 @@ impl<'a> Until<'a> {
         for x in (0..=self.last()).rev() {
             members.open(x);
             self.begin(x, &mut members);
-            while self.grow(x, &mut members) {}
+            match self.every {
+                true => while self.grow_every(x, &mut members) {},
+                false => while self.grow_some(x, &mut members) {},
+            }
         }
         for (state, mark) in row.iter_mut().enumerate() {
             *mark = u8::from(members.has(state, 0));
@@ -50,11 +56,11 @@ impl<'a> Until<'a> {
         }
     }
 
-    /// P and some or every next; says whether a pair was added, for then others may follow within the minute.
-    fn grow(&self, x: usize, members: &mut Members) -> bool {
+    /// P and some next; says whether a pair was added, for then others may follow within the minute.
+    fn grow_some(&self, x: usize, members: &mut Members) -> bool {
         let mut grown = false;
         for state in 0..self.p.len() {
-            if self.p[state] == 1 && !members.has(state, x) && self.next(state, x, members) {
+            if self.p[state] == 1 && !members.has(state, x) && self.some_next(state, x, members) {
                 members.add(state, x);
                 grown = true;
             }
@@ -62,22 +68,11 @@ impl<'a> Until<'a> {
         grown
     }
 
-    fn next(&self, state: usize, x: usize, members: &Members) -> bool {
-        let arrows = self.leaving.state(state);
-        match self.every {
-            true => arrows.iter().all(|arrow| self.every_duration(arrow, x, members)),
-            false => arrows.iter().any(|arrow| self.some_duration(arrow, x, members)),
-        }
-    }
-
-    fn every_duration(&self, arrow: &Arrow, x: usize, members: &Members) -> bool {
-        let (lo, hi) = self.window(arrow, x);
-        members.within(usize::from(arrow.end), lo, hi) as usize == hi - lo + 1
-    }
-
-    fn some_duration(&self, arrow: &Arrow, x: usize, members: &Members) -> bool {
-        let (lo, hi) = self.window(arrow, x);
-        members.within(usize::from(arrow.end), lo, hi) > 0
+    fn some_next(&self, state: usize, x: usize, members: &Members) -> bool {
+        self.leaving.state(state).iter().any(|arrow| {
+            let (lo, hi) = self.window(arrow, x);
+            members.within(usize::from(arrow.end), lo, hi) > 0
+        })
     }
 
     /// The minutes at which the arrow can end when taken at minute x.

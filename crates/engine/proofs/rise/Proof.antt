@@ -1,5 +1,5 @@
 -- Invariant: the numbers are on their way, after so many sweeps, and the arrows before the floor raise none.
-use mathlib.Core.Path.{_≡_, sym, subst}
+use mathlib.Core.Path.{_≡_, refl, sym, subst}
 use mathlib.Core.Bool.{Bool, cond}
 use mathlib.Core.List.{List}
 use Prim.Native.Nat.{ℕ, _≤_}
@@ -17,7 +17,7 @@ use Rattle.engine.proofs.rise.Tie as tie
 
 abbrev Inv-loop : tie.InvT-loop
 Inv-loop way chart n m row₀ numbers₀ done₀ seen₀ floor₀ row numbers done seen floor =
-    (done ≤ n) × (floor ≤ m) × (length row ≡ n) × (length numbers ≡ n) ×
+    (done ≤ n) × (floor ≤ m) × (length row ≡ length row₀) × (length numbers ≡ n) ×
     ((go : ℕ → Bool) → Ready way go numbers₀ →
     OnTheWay way chart go done numbers₀ numbers × Still way chart go 0 floor (values numbers))
 
@@ -73,15 +73,13 @@ loop-holds c =
     let p = entry c .pre in (
       omega arith,
       omega arith,
-      p .wide,
+      refl,
       p .given .size,
       λ go r. (way-none _ (p .given .passed) go _ (p .given .size) r, λ i z l. absurd (let y : ⊥ = omega arith in y)),
     )
 
 along-requires : tie.Need-along-requires Inv-loop μ-loop
-along-requires c κs =
-    let inv = hurried c .before .loop .inv in
-    (given (hurried c) (inv .3), inv .2)
+along-requires c κs = given (hurried c) (hurried c .before .loop .inv .3)
 
 returns : tie.Need-returns Inv-loop μ-loop
 returns c go r =
@@ -157,9 +155,9 @@ pub rise-spec : {M : Type 1} → statement M
 rise-spec =
     tie.close
     (tie.spec Inv-loop μ-loop loop-holds (λ c κs. tt) along-requires (λ c κs. tt)
-    (λ c. let at-loop = head (ran (c .before)) in omega (arith, at-loop .loop .inv .2, start at-loop .pre .wide))
+    (λ c. omega (arith, head (ran (c .before)) .loop .inv .2))
     (λ c. let at-loop = head (ran (c .before)) in omega (arith, at-loop .loop .inv .3, start at-loop .pre .given .size))
     returns (λ c κs. tt) sweep-requires
-    (λ c. let at-loop = turn (c .before) in omega (arith, at-loop .loop .inv .2, start at-loop .pre .wide))
+    (λ c. omega (arith, turn (c .before) .loop .inv .2))
     (λ c. let at-loop = turn (c .before) in omega (arith, at-loop .loop .inv .3, start at-loop .pre .given .size))
     returns-2 (λ c κs. turn (c .before) .loop .inv .0) loop-less loop-again)

@@ -26,12 +26,11 @@ abbrev start : tie.After-pass → tie.Start
 start c = c .before .before .before .before .before
 
 again-requires : tie.Need-again-requires
-again-requires c κs = given-still (start (passed1 c) .pre .0) (search needs)
+again-requires c κs = given-still (start (passed1 c) .pre) (search needs)
 
 walk-requires : tie.Need-walk-requires
 walk-requires c κs =
-    let p = start (passed1 (passed2 c .before)) .pre in
-    (given-still (p .0) (search needs), p .1)
+    given-still (start (passed1 (passed2 c .before)) .pre) (search needs)
 
 returns : tie.Need-returns
 returns c = runs-as _ _ _ _ _ (not-true _ (c .if1 .taken)) (runs-goes _ _ _ _ _ (first (c .before) .pass .ensures))

@@ -12,7 +12,7 @@ use Rattle.walks.proofs.back.Tie as tie
 
 abbrev Inv-loop : tie.InvT-loop
 Inv-loop way chart n m count row numbers₀ k₀ numbers k =
-    (k ≤ n) × (length numbers ≡ n) × Walks way chart m true numbers₀ numbers
+    (k ≤ length row) × (length numbers ≡ n) × Walks way chart m true numbers₀ numbers
 
 abbrev μ-loop : tie.MeasureT-loop
 μ-loop way chart n m count row numbers₀ k₀ numbers k = k
@@ -37,7 +37,7 @@ abbrev start : tie.At-loop Inv-loop μ-loop → tie.Start Inv-loop μ-loop
 start c = entry (c .before)
 
 loop-holds : tie.Need-loop-holds Inv-loop μ-loop
-loop-holds c = let p = entry c .pre in (p .2, p .0 .size, runs-none _ _ _ _ _)
+loop-holds c = let p = entry c .pre in (p .1, p .0 .size, runs-none _ _ _ _ _)
 
 follow-requires : tie.Need-follow-requires Inv-loop μ-loop
 follow-requires c κs =
@@ -55,8 +55,7 @@ loop-again c =
 pub back-spec : {M : Type 1} → statement M
 back-spec =
     tie.close
-    (tie.spec Inv-loop μ-loop loop-holds (λ c. omega arith)
-    (λ c. omega (arith, loop c .loop .inv .0, start (loop c) .pre .1)) (λ c κs. tt)
+    (tie.spec Inv-loop μ-loop loop-holds (λ c. omega arith) (λ c. omega (arith, loop c .loop .inv .0)) (λ c κs. tt)
     (λ c. omega (arith, c .wide .ensures)) (λ c. omega (arith, head (c .before) .loop .inv .1, start (head (c .before)) .pre .0 .size))
     (λ c. head (c .before) .loop .inv .2) follow-requires (λ c. omega arith) loop-again
     (λ c. omega (arith, c .before .loop .inv .1, start (c .before) .pre .0 .size)) (λ c. c .before .loop .inv .2))

@@ -1,5 +1,5 @@
 -- Invariant: the numbers changed at their marks alone, and the walk is at a state.
-use mathlib.Core.Path.{_≡_}
+use mathlib.Core.Path.{_≡_, refl}
 use Prim.Native.Nat.{_≤_, _<_, _-_}
 use native.Mathlib.Omega.{arith}
 use lib.ListN.{length, length-set}
@@ -14,10 +14,10 @@ use Rattle.walks.proofs.trail.Tie as tie
 
 abbrev Inv-loop : tie.InvT-loop
 Inv-loop seen chart n m from row₀ numbers₀ at₀ k₀ row numbers at k =
-    (k ≤ n) × (at < n) × (length row ≡ n) × (length numbers ≡ n) × Remarked numbers₀ numbers
+    (k ≤ length row₀) × (at < n) × (length row ≡ length row₀) × (length numbers ≡ n) × Remarked numbers₀ numbers
 
 abbrev μ-loop : tie.MeasureT-loop
-μ-loop seen chart n m from row₀ numbers₀ at₀ k₀ row numbers at k = n - k
+μ-loop seen chart n m from row₀ numbers₀ at₀ k₀ row numbers at k = length row₀ - k
 
 -- the stops: where the walk's end was tested, the loop's head, and the start
 abbrev tested : tie.After-turned Inv-loop μ-loop → tie.After-ends Inv-loop μ-loop
@@ -36,7 +36,7 @@ abbrev start : tie.At-loop Inv-loop μ-loop → tie.Start Inv-loop μ-loop
 start c = entry (c .before)
 
 loop-holds : tie.Need-loop-holds Inv-loop μ-loop
-loop-holds c = let p = entry c .pre in (omega arith, p .3, p .2, p .1, marked-none)
+loop-holds c = let p = entry c .pre in (omega arith, p .2, refl, p .1, marked-none)
 
 -- the walk's state has a number
 at-state : (c : tie.At-loop Inv-loop μ-loop) → (c .loop .at < length (c .loop .numbers)) × (c .loop .at < 256)
@@ -66,7 +66,7 @@ loop-again c =
     let turned = c .before in
     let at-loop = head (tested turned) in
     let inv = at-loop .loop .inv in (
-      omega arith,
+      omega (arith, inv .2),
       c .arrow .ensures .1 .end,
       simp length-set (inv .2),
       simp length-set (inv .3),
@@ -77,10 +77,10 @@ pub trail-spec : {M : Type 1} → statement M
 trail-spec =
     tie.close
     (tie.spec Inv-loop μ-loop loop-holds (λ c. omega (arith, at-state (c .before))) (λ c. omega (arith, at-state (loop c)))
-    (λ c κs. tt) (λ c κs. tt) (λ c. omega (arith, head (c .before) .loop .inv .2, start (head (c .before)) .pre .2))
+    (λ c κs. tt) (λ c κs. tt) (λ c. head (c .before) .loop .inv .2)
     (λ c. omega (arith, head (c .before) .loop .inv .3, start (head (c .before)) .pre .1)) returns (λ c κs. tt)
     (λ c. omega (arith, at-state (head (tested c)))) (λ c. omega (arith, at-state (head (tested c)))) cast-row
     (λ c. omega (arith, head (tested c) .loop .inv .2)) arrow-requires (λ c. omega arith)
-    (λ c. omega arith) loop-again (λ c. omega (arith, c .before .loop .inv .2, start (c .before) .pre .2))
+    (λ c. omega arith) loop-again (λ c. c .before .loop .inv .2)
     (λ c. omega (arith, c .before .loop .inv .3, start (c .before) .pre .1))
     (λ c. let inv = c .before .loop .inv in (inv .4, inv .1, inv .0)))

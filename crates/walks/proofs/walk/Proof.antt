@@ -1,7 +1,7 @@
 -- Invariant: so far the numbers went their way.
-use mathlib.Core.Path.{_≡_}
+use mathlib.Core.Path.{_≡_, refl}
 use mathlib.Core.Bool.{true}
-use Prim.Native.Nat.{_≤_, _-_}
+use Prim.Native.Nat.{_-_}
 use native.Mathlib.Omega.{arith}
 use lib.ListN.{length}
 use Rattle.visits.proofs.Went.{given-still}
@@ -12,7 +12,7 @@ use Rattle.walks.proofs.walk.Tie as tie
 
 abbrev Inv-loop : tie.InvT-loop
 Inv-loop way seen chart n m row₀ numbers₀ s₀ row numbers s =
-    (s ≤ n) × (length row ≡ n) × (length numbers ≡ n) × Walks way chart m true numbers₀ numbers
+    (length row ≡ length row₀) × (length numbers ≡ n) × Walks way chart m true numbers₀ numbers
 
 abbrev μ-loop : tie.MeasureT-loop
 μ-loop way seen chart n m row₀ numbers₀ s₀ row numbers s = n - s
@@ -31,26 +31,25 @@ abbrev start : tie.At-loop Inv-loop μ-loop → tie.Start Inv-loop μ-loop
 start c = entry (c .before)
 
 loop-holds : tie.Need-loop-holds Inv-loop μ-loop
-loop-holds c = let p = entry c .pre in (omega arith, p .1, p .0 .size, runs-none _ _ _ _ _)
+loop-holds c = (refl, entry c .pre .size, runs-none _ _ _ _ _)
 
 walk-from-requires : tie.Need-walk-from-requires Inv-loop μ-loop
 walk-from-requires c κs =
     let at-loop = turn c .before in
     let inv = at-loop .loop .inv in
-    (given-still (start at-loop .pre .0) (inv .2), inv .1, turn c .loop-test .taken)
+    (given-still (start at-loop .pre) (inv .1), turn c .loop-test .taken)
 
 loop-again : tie.Need-loop-again Inv-loop μ-loop
 loop-again c =
     let inv = turn (walked c .before) .before .loop .inv in (
-      omega arith,
+      omega (arith, inv .0),
       omega (arith, inv .1),
-      omega (arith, inv .2),
-      runs-both _ _ _ _ _ _ (inv .3) (walked c .walk-from .ensures),
+      runs-both _ _ _ _ _ _ (inv .2) (walked c .walk-from .ensures),
     )
 
 pub walk-spec : {M : Type 1} → statement M
 walk-spec =
     tie.close
     (tie.spec Inv-loop μ-loop loop-holds walk-from-requires (λ c. omega arith) (λ c. omega arith) loop-again
-    (λ c. omega (arith, c .before .loop .inv .1, start (c .before) .pre .1))
-    (λ c. omega (arith, c .before .loop .inv .2, start (c .before) .pre .0 .size)) (λ c. c .before .loop .inv .3))
+    (λ c. c .before .loop .inv .0) (λ c. omega (arith, c .before .loop .inv .1, start (c .before) .pre .size))
+    (λ c. c .before .loop .inv .2))

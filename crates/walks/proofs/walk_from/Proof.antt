@@ -30,7 +30,7 @@ back-requires : tie.Need-back-requires
 back-requires c κs =
     let w = walked (leapt c .before) in
     let p = start w .pre in
-    (given-still (p .0) (omega (arith, p .0 .size, w .trail .ensures .0 .size)), omega (arith, p .1), w .trail .ensures .2)
+    (given-still (p .0) (omega (arith, p .0 .size, w .trail .ensures .0 .size)), omega (arith, w .trail .ensures .2))
 
 returns : tie.Need-returns
 returns c =

@@ -1,6 +1,7 @@
 //! Charts: their bytes and small random ones.
 
 use crate::random::rng::Rng;
+use crate::random::timelocks::let_time_pass;
 
 pub const NO_END: u16 = 65_535;
 
@@ -57,18 +58,20 @@ impl Chart {
     }
 }
 
-/// What the slots of one chart look like.
+/// What the slots of one chart look like: how many in 100 begin at 0, are 0 to 0, and have no end, and how long they are.
 pub struct Slots {
     zero: usize,
+    instant: usize,
     no_end: usize,
     large: bool,
 }
 
 impl Slots {
     pub fn random(rng: &mut Rng) -> Slots {
-        let zero = rng.pick(&[0, 10, 30, 60]);
+        let zero = rng.pick(&[0, 10, 30, 60, 95]);
+        let instant = rng.pick(&[0, 0, 10, 30, 60, 90]);
         let no_end = rng.pick(&[0, 5, 15, 30]);
-        Slots { zero, no_end, large: rng.percent(8) }
+        Slots { zero, instant, no_end, large: rng.percent(8) }
     }
 
     fn fewest(&self, rng: &mut Rng) -> u16 {
@@ -83,6 +86,9 @@ impl Slots {
     }
 
     pub fn slot(&self, rng: &mut Rng) -> (u16, u16) {
+        if rng.percent(self.instant) {
+            return (0, 0);
+        }
         let fewest = self.fewest(rng);
         if rng.percent(self.no_end) {
             return (fewest, NO_END);
@@ -162,26 +168,14 @@ fn arrows(rng: &mut Rng, n: usize, m: usize, slots: &Slots) -> Vec<Arrow> {
     made
 }
 
-/// Arrows of fewest 0 only go up in a random order of the states, so that no loop is all 0.
-pub fn without_zero_loops(rng: &mut Rng, chart: &mut Chart) {
-    let mut rank: Vec<usize> = (0..chart.states()).collect();
-    rng.shuffle(&mut rank);
-    for a in chart.arrows.iter_mut() {
-        if a.fewest == 0 && rank[a.start as usize] >= rank[a.end as usize] {
-            a.fewest = 1;
-            a.most = a.most.max(1);
-        }
-    }
-}
-
-/// A chart that passes 1 to 9 and, unless `zero_loops` lets it, 19.
-pub fn random(rng: &mut Rng, zero_loops: bool) -> Chart {
+/// A chart that passes 1 to 9 and, unless `timelocks` leaves it as it is drawn, 19.
+pub fn random(rng: &mut Rng, timelocks: bool) -> Chart {
     let (n, m) = size(rng);
     let slots = Slots::random(rng);
     let arrows = arrows(rng, n, m, &slots);
     let mut chart = Chart { labels: labels(rng, n), arrows };
-    if !zero_loops {
-        without_zero_loops(rng, &mut chart);
+    if !timelocks {
+        let_time_pass(rng, &mut chart);
     }
     rng.shuffle(&mut chart.arrows);
     chart
@@ -208,7 +202,31 @@ pub fn great(rng: &mut Rng) -> Chart {
         let most = if rng.percent(25) { NO_END } else { x.max(y) };
         chart.arrows.push(arrow(start, rng.below(n), x.min(y), most));
     }
-    without_zero_loops(rng, &mut chart);
+    let_time_pass(rng, &mut chart);
     rng.shuffle(&mut chart.arrows);
     chart
+}
+
+#[cfg(test)]
+mod tests {
+    use super::{great, random, Chart};
+    use crate::bytes::rule;
+    use crate::named::expected::just_true;
+    use crate::random::rng::Rng;
+
+    fn refused(chart: &Chart) -> u32 {
+        let n = chart.states();
+        oracle::check(&chart.bytes(), &rule::bytes(&just_true()), &mut vec![0; n], &mut vec![0; 4 * n]).number
+    }
+
+    #[test]
+    fn only_charts_as_they_are_drawn_meet_19() {
+        let rng = &mut Rng::new(1);
+        assert!((0..2_000).all(|_| refused(&random(rng, false)) == 0));
+        assert!((0..2_000).all(|_| refused(&great(rng)) == 0));
+        let mut drawn: Vec<u32> = (0..2_000).map(|_| refused(&random(rng, true))).collect();
+        drawn.sort();
+        drawn.dedup();
+        assert_eq!(drawn, [0, 19]);
+    }
 }

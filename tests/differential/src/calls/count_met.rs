@@ -51,7 +51,7 @@ const OTHERS: [&str; 24] = [
     "scratch of 256n − 1 numbers",
     "scratch of 4n numbers",
     "scratch short, no until",
-    "loop of zeros, scratch to spare",
+    "19, scratch to spare",
     "bound 256 refused",
     "bound above 256 refused",
     "refused bound of an inner node",
@@ -123,12 +123,12 @@ impl<'a> Counted<'a> {
             (self.above().count() > 1, "refused bound, a higher node's too"),
             (marks < self.marks_wanted(), "63 before 17"),
             (scratch < self.scratch_wanted(), "63 before 18"),
-            (self.has_zero_loop(), "63 before 19"),
+            (self.meets_19(), "63 before 19"),
         ];
         met.into_iter().filter(|(is, _)| *is).map(|(_, kind)| kind).collect()
     }
 
-    fn has_zero_loop(&self) -> bool {
+    fn meets_19(&self) -> bool {
         let rule = rule::bytes(&[plain(TRUE, 0, 0)]);
         oracle::check(self.chart, &rule, &mut vec![0; self.n], &mut vec![0; 4 * self.n]).number == 19
     }
@@ -258,7 +258,7 @@ pub fn kinds(case: &Case, answer: &Answer) -> Vec<&'static str> {
             one(counted.without_until(), "scratch short, no until"),
         ]
         .concat(),
-        19 => one(scratch > counted.scratch_wanted(), "loop of zeros, scratch to spare"),
+        19 => one(scratch > counted.scratch_wanted(), "19, scratch to spare"),
         63 => counted.refused(marks, scratch),
         _ => Vec::new(),
     }

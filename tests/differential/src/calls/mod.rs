@@ -3,6 +3,7 @@
 pub mod compare;
 pub mod count_as_check;
 pub mod count_met;
+pub mod loops_met;
 pub mod met;
 pub mod promises;
 pub mod report;

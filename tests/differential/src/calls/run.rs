@@ -17,8 +17,10 @@ use crate::named::items;
 use crate::named::large;
 use crate::named::maps;
 use crate::named::minutes;
+use crate::named::passing;
 use crate::named::rules;
 use crate::named::shows;
+use crate::named::timelocks;
 use crate::random::generate;
 
 /// The run stops after so many differences.
@@ -29,11 +31,13 @@ fn named() -> Vec<Named> {
     let mut list = Vec::new();
     items::all(&mut list);
     charts::all(&mut list);
+    timelocks::all(&mut list);
     rules::all(&mut list);
     maps::all(&mut list);
     shows::all(&mut list);
     counts::all(&mut list);
     minutes::all(&mut list);
+    passing::all(&mut list);
     large::all(&mut list);
     list
 }

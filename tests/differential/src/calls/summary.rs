@@ -1,6 +1,8 @@
-//! What was met: numbers per call, marks per operation, kinds of rule, and what the shows and the counts met.
+//! What was met: numbers per call, marks per operation, kinds of rule, what the shows and the counts met, and which loops
+//! the accepted charts had.
 
 use crate::calls::compare::{Answer, Kind, Part};
+use crate::calls::loops_met::LoopsMet;
 use crate::calls::met::Met;
 use crate::calls::{count_met, show_met};
 use crate::cases::case::{Case, CALLS};
@@ -31,6 +33,7 @@ pub struct Summary {
     /// Of the random ones.
     shows: Met,
     counts: Met,
+    loops: LoopsMet,
 }
 
 /// The numbers that a call can answer with.
@@ -66,6 +69,7 @@ impl Summary {
             parts: [0; 2],
             shows: Met::of(show_met::KINDS),
             counts: Met::of(count_met::all()),
+            loops: LoopsMet::new(),
         }
     }
 
@@ -80,6 +84,9 @@ impl Summary {
         if let Some((number, _)) = answer.outcome() {
             if let Some(row) = self.numbers.get_mut(number as usize) {
                 row[call][random as usize] += 1;
+            }
+            if random && number == 0 {
+                self.loops.add(case);
             }
         }
         match (case, answer) {
@@ -109,7 +116,8 @@ impl Summary {
         }
     }
 
-    /// Each number that a call never met, each form whose marks were all alike, and what no show and no count met.
+    /// Each number that a call never met, each form whose marks were all alike, what no show and no count met, and loops
+    /// that no accepted chart had.
     pub fn missing(&self) -> Vec<String> {
         let strict = self.random >= ENOUGH;
         let mut missing = self.missing_numbers(strict);
@@ -143,6 +151,7 @@ impl Summary {
                 missing.push(format!("both marks of {form}"));
             }
         }
+        missing.extend(self.loops.missing());
         for (call, met) in [(SHOW, &self.shows), (COUNT, &self.counts)] {
             missing.extend(met.missing().map(|kind| format!("{}: {kind}", CALLS[call])));
             let random: u64 = self.numbers.iter().map(|row| row[call][1]).sum();
@@ -193,7 +202,8 @@ impl Summary {
         for (kind, met) in KINDS.iter().zip(self.kinds) {
             text += &format!("{:>12}  met {met} times\n", format!("{kind:?}"));
         }
-        text + &format!("shows met\n{}counts met\n{}", self.shows.text(), self.counts.text())
+        let (shows, counts, loops) = (self.shows.text(), self.counts.text(), self.loops.text());
+        text + &format!("shows met\n{shows}counts met\n{counts}accepted random charts that have\n{loops}")
     }
 }
 

@@ -44,6 +44,15 @@ impl Lent {
 }
 
 impl Case {
+    /// The charts that are handed to the call.
+    pub fn charts(&self) -> Vec<&[u8]> {
+        match self {
+            Case::Check { chart, .. } | Case::Count { chart, .. } | Case::Show { chart, .. } => vec![chart],
+            Case::Map { detail, overview, .. } => vec![detail, overview],
+            Case::Kind { .. } | Case::Row { .. } => Vec::new(),
+        }
+    }
+
     /// The place of the call in `CALLS`.
     pub fn call(&self) -> usize {
         match self {

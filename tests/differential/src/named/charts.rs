@@ -1,5 +1,4 @@
-//! Rows 1 to 9 and 17 to 19 of the refusal table, each with the neighbour that passes;
-//! the order of rows.
+//! Rows 1 to 9, 17 and 18 of the refusal table, each with the neighbour that passes; the order of rows.
 
 use crate::bytes::chart::{arrow, Arrow, Chart, NO_END};
 use crate::bytes::rule::{self, node, plain, A, LABEL, NOT, TRUE};
@@ -10,7 +9,7 @@ use crate::random::damage::restate;
 pub type List = Vec<Named>;
 
 /// A chart in check, in count and in show, then as the detail and as the overview of a map check.
-fn chart_row(list: &mut List, name: &str, chart: Vec<u8>, number: u32, place: u32) {
+pub fn chart_row(list: &mut List, name: &str, chart: Vec<u8>, number: u32, place: u32) {
     let n = chart.get(5..7).map_or(0, |two| u16::from_be_bytes([two[0], two[1]]) as usize);
     let as_check = check(chart.clone(), rule::bytes(&just_true()), n, 4 * n);
     add(list, &format!("{name}, check"), as_check, Expected::Outcome(number, place));
@@ -108,44 +107,43 @@ fn chart_arrows(list: &mut List) {
     chart_row(list, "row 9: n = 2, one arrow 1 to 0", bare.bytes(), 9, 0);
 }
 
-fn zero_loops(list: &mut List) {
-    let single = |fewest| Chart { labels: vec![0], arrows: vec![arrow(0, 0, fewest, 3)] }.bytes();
-    chart_row(list, "row 19: arrow 0 to 0, slot 0 to 3", single(0), 19, 0);
-    chart_row(list, "row 19 passed: slot 1 to 3", single(1), 0, 0);
-    let ring = |last| {
-        let arrows = vec![arrow(0, 2, 0, 0), arrow(2, 1, 0, 5), arrow(1, 2, last, NO_END)];
-        Chart { labels: vec![0; 3], arrows }.bytes()
-    };
-    chart_row(list, "row 19: lowest state on a loop is 1", ring(0), 19, 1);
-    chart_row(list, "row 19 passed: one fewest is 1", ring(1), 0, 0);
+/// Short with an arrow of 0 to 0 from state 1 to itself; if it is alone there, state 0 has a loop of its own.
+fn short_looped(alone: bool) -> Chart {
+    let mut chart = short();
+    let looped = arrow(1, 1, 0, 0);
+    if alone {
+        chart.arrows[1] = looped;
+        chart.arrows.push(arrow(0, 0, 1, 1));
+    } else {
+        chart.arrows.push(looped);
+    }
+    chart
 }
 
-/// A check of Short with a three-node rule, given the lengths of marks and scratch.
-fn lent_lengths(marks: usize, scratch: usize, zero_loop: bool) -> Case {
-    let mut chart = short();
-    if zero_loop {
-        chart.arrows.push(arrow(1, 1, 0, 0));
-    }
+/// A check of the chart with a three-node rule, given the lengths of marks and scratch.
+fn lent_lengths(chart: &Chart, marks: usize, scratch: usize) -> Case {
     let nodes = [plain(TRUE, 0, 0), plain(LABEL, 2, 0), node(A, 1, 0, 1, 13)];
     check(chart.bytes(), rule::bytes(&nodes), marks, scratch)
 }
 
 fn buffers(list: &mut List) {
-    let mut test = |name: &str, marks, scratch, zero_loop, number, place| {
-        let case = lent_lengths(marks, scratch, zero_loop);
-        add(list, name, case, Expected::Outcome(number, place));
+    let mut test = |name: &str, chart: &Chart, marks, scratch, expected| {
+        add(list, name, lent_lengths(chart, marks, scratch), expected);
     };
-    test("row 17: n = k = 3, 8 bytes", 8, 12, false, 17, 0);
-    test("row 17: no marks", 0, 12, false, 17, 0);
-    test("row 17 passed: 9 bytes", 9, 12, false, 0, 0);
-    test("row 17 passed: 10 bytes", 10, 12, false, 0, 0);
-    test("row 18: n = 3, 11 numbers", 9, 11, false, 18, 0);
-    test("row 18: no scratch", 9, 0, false, 18, 0);
-    test("row 18 passed: 12 numbers", 9, 12, false, 0, 0);
-    test("row 18 passed: 13 numbers", 9, 13, false, 0, 0);
-    test("17 goes before 18 and 19", 8, 11, true, 17, 0);
-    test("18 goes before 19", 9, 11, true, 18, 0);
-    test("19 with longer buffers", 20, 30, true, 19, 1);
+    let refused = |number, place| Expected::Outcome(number, place);
+    let (short, left, locked) = (short(), short_looped(false), short_looped(true));
+    test("row 17: n = k = 3, 8 bytes", &short, 8, 12, refused(17, 0));
+    test("row 17: no marks", &short, 0, 12, refused(17, 0));
+    test("row 17 passed: 9 bytes", &short, 9, 12, refused(0, 0));
+    test("row 17 passed: 10 bytes", &short, 10, 12, refused(0, 0));
+    test("row 18: n = 3, 11 numbers", &short, 9, 11, refused(18, 0));
+    test("row 18: no scratch", &short, 9, 0, refused(18, 0));
+    test("row 18 passed: 12 numbers", &short, 9, 12, refused(0, 0));
+    test("row 18 passed: 13 numbers", &short, 9, 13, refused(0, 0));
+    test("17 goes before 18 and 19", &locked, 8, 11, refused(17, 0));
+    test("18 goes before 19", &locked, 9, 11, refused(18, 0));
+    test("19 with longer buffers", &locked, 20, 30, refused(19, 1));
+    test("19 passed with longer buffers", &left, 20, 30, Expected::Marks("111001011"));
 }
 
 /// One state with the given label word and arrows to itself with the given slots.
@@ -164,11 +162,13 @@ fn lowest(list: &mut List) {
     chart_row(list, "row 7: arrows 1 and 2", with(&|a| a.end = 3), 7, 1);
     chart_row(list, "row 8: arrows 1 and 2", with(&|a| (a.fewest, a.most) = (5, 4)), 8, 1);
     chart_row(list, "row 9: states 1 and 2", with(&|a| a.start = 0), 9, 1);
-    let zero = with(&|a| (a.start, a.end, a.fewest) = (a.start, a.start, 0));
-    let mut bare = zero.clone();
-    bare.splice(15..17, [0, 1]);
-    chart_row(list, "row 9: state 0, beside loops of fewest 0", bare, 9, 0);
-    chart_row(list, "row 19: states 1 and 2", zero, 19, 1);
+    let mut still = with(&|a| (a.end, a.fewest, a.most) = (a.start, 0, 0));
+    // State 0 leads to itself as well.
+    still[18] = 0;
+    let mut bare = still.clone();
+    bare[16] = 1;
+    chart_row(list, "row 9: state 0, beside loops of 0 to 0", bare, 9, 0);
+    chart_row(list, "row 19: states 1 and 2", still, 19, 1);
 }
 
 /// Inputs that meet the conditions of two rows at once.
@@ -183,10 +183,14 @@ fn order(list: &mut List) {
     chart.arrows[0] = arrow(0, 1, 5, 4);
     chart.arrows[2] = arrow(2, 3, 1, 1);
     add(list, "7 before 8", check(chart.bytes(), vec![], 0, 0), Expected::Outcome(7, 2));
-    let zero = || single(0, &[(0, 3)]);
-    add(list, "19 before 41", map(zero(), vec![], vec![]), Expected::Outcome(19, 0));
+    let still = || single(0, &[(0, 0)]);
+    add(list, "19 before 41", map(still(), vec![], vec![]), Expected::Outcome(19, 0));
+    add(list, "19 before 59", map(still(), still(), identity(1)), Expected::Outcome(19, 0));
     add(list, "41 before 20", map(one().bytes(), vec![], vec![]), Expected::Outcome(41, 0));
-    add(list, "59 before 20", map(one().bytes(), zero(), vec![]), Expected::Outcome(59, 0));
+    add(list, "59 before 20", map(one().bytes(), still(), vec![]), Expected::Outcome(59, 0));
+    add(list, "59 before 21", map(one().bytes(), still(), map_of(&[1])), Expected::Outcome(59, 0));
+    let other = single(1, &[(0, 0)]);
+    add(list, "59 before 22 and 23", map(one().bytes(), other, identity(1)), Expected::Outcome(59, 0));
     let two = Chart { labels: vec![1, 2], arrows: vec![arrow(0, 1, 1, 1), arrow(1, 0, 1, 1)] }.bytes();
     let entries = map_of(&[1, 2]);
     add(list, "21 before 22", map(two.clone(), two.clone(), entries), Expected::Outcome(21, 1));
@@ -198,7 +202,6 @@ pub fn all(list: &mut List) {
     chart_frame(list);
     chart_counts(list);
     chart_arrows(list);
-    zero_loops(list);
     buffers(list);
     lowest(list);
     order(list);

@@ -54,19 +54,19 @@ fn order(list: &mut List) {
     let mut test = |name: &str, chart: &Chart, nodes: &[Node], number, place| {
         add(list, name, count(chart.bytes(), rule::bytes(nodes), 0, 0), Expected::Outcome(number, place));
     };
-    let looped = Chart { labels: vec![0], arrows: vec![arrow(0, 0, 0, 3)] };
+    let still = Chart { labels: vec![0], arrows: vec![arrow(0, 0, 0, 0)] };
     let bare = Chart { labels: vec![0, 0], arrows: vec![arrow(0, 0, 1, 1)] };
     let late = always(E, AT_MOST, 256);
     test("63 goes before 17 and 18", &short(), &late, 63, 2);
-    test("63 goes before 17 to 19", &looped, &late, 63, 2);
-    test("17 goes where 63 is passed", &looped, &always(E, AT_MOST, 255), 17, 0);
+    test("63 goes before 17 to 19", &still, &late, 63, 2);
+    test("17 goes where 63 is passed", &still, &always(E, AT_MOST, 255), 17, 0);
     test("9 goes before 63", &bare, &late, 9, 1);
     test("14 goes before 63", &short(), &always(E, 3, 256), 14, 2);
     test("15 goes before 63", &short(), &[plain(TRUE, 0, 0), node(E, AT_MOST, 0, 1, 256)], 15, 1);
     test("16 goes before 63", &short(), &[plain(TRUE, 0, 0), node(E, AT_MOST, 0, 0, 256)], 16, 0);
     let unused = [late.clone(), just_true()].concat();
     test("16 of a higher node goes before 63", &short(), &[unused, vec![plain(NOT, 3, 0)]].concat(), 16, 2);
-    for (name, chart) in [("with all of its buffers", short()), ("with a loop of zeros", looped)] {
+    for (name, chart) in [("with all of its buffers", short()), ("with a 0 to 0 self loop", still)] {
         let n = chart.states();
         let case = count(chart.bytes(), rule::bytes(&late), 3 * n + 5, 256 * n + 5);
         add(list, &format!("row 63 {name}"), case, Expected::Outcome(63, 2));
@@ -76,7 +76,8 @@ fn order(list: &mut List) {
 /// Counts of Short and the paper's rule, given the lengths of marks and scratch.
 fn room(list: &mut List) {
     let nodes = eventually(A, AT_MOST, 2, 13);
-    let looped = Chart { arrows: [short().arrows, vec![arrow(1, 1, 0, 0)]].concat(), ..short() };
+    let left = Chart { arrows: [short().arrows, vec![arrow(1, 1, 0, 0)]].concat(), ..short() };
+    let locked = Chart { labels: vec![1, 2, 4], arrows: vec![arrow(0, 0, 1, 1), arrow(1, 1, 0, 0), arrow(2, 0, 1, 1)] };
     let mut test = |name: &str, chart: &Chart, nodes: &[Node], marks, scratch, expected| {
         add(list, name, count(chart.bytes(), rule::bytes(nodes), marks, scratch), expected);
     };
@@ -90,10 +91,11 @@ fn room(list: &mut List) {
     test("row 18: no scratch", &short(), &nodes, 9, 0, refused(18, 0));
     test("row 18 passed: 768 numbers", &short(), &nodes, 9, 768, listed());
     test("row 18 passed: 771 numbers", &short(), &nodes, 9, 771, listed());
-    test("17 goes before 18 and 19", &looped, &nodes, 8, 767, refused(17, 0));
-    test("18 goes before 19", &looped, &nodes, 9, 767, refused(18, 0));
-    test("row 19: 768 numbers", &looped, &nodes, 9, 768, refused(19, 1));
-    test("row 19: longer buffers", &looped, &nodes, 20, 900, refused(19, 1));
+    test("17 goes before 18 and 19", &locked, &nodes, 8, 767, refused(17, 0));
+    test("18 goes before 19", &locked, &nodes, 9, 767, refused(18, 0));
+    test("row 19: 768 numbers", &locked, &nodes, 9, 768, refused(19, 1));
+    test("row 19: longer buffers", &locked, &nodes, 20, 900, refused(19, 1));
+    test("row 19 passed: a 0 to 0 loop that can be left", &left, &nodes, 9, 768, listed());
     test("true alone, 767 numbers", &short(), &just_true(), 3, 767, refused(18, 0));
     test("true alone, 768 numbers", &short(), &just_true(), 3, 768, Expected::Marks("111"));
     test("one state, 255 numbers", &one(), &just_true(), 1, 255, refused(18, 0));

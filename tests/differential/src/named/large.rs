@@ -1,9 +1,11 @@
-//! The largest charts under large bounds, and under the greatest that is counted to. No marks are written for them: they are accepted, and both programs agree.
+//! The largest charts under large bounds, and under the greatest that is counted to. No marks are written for them: they
+//! are accepted, and both programs agree.
 
-use crate::bytes::chart::{arrow, without_zero_loops, Arrow, Chart, NO_END};
+use crate::bytes::chart::{arrow, Arrow, Chart, NO_END};
 use crate::bytes::rule::{node, plain, Node, A, E, LABEL, OR};
 use crate::named::expected::{add, exact, exact_count, Expected, Named};
 use crate::random::rng::Rng;
+use crate::random::timelocks::let_time_pass;
 
 const STATES: usize = 256;
 const HALF: usize = STATES / 2;
@@ -41,7 +43,7 @@ fn random(minutes: usize, no_end: bool) -> Chart {
     // A at least: every run of the upper half keeps its first label.
     labels[HALF..].iter_mut().for_each(|word| *word |= 1 << 6);
     let mut chart = Chart { labels, arrows };
-    without_zero_loops(&mut rng, &mut chart);
+    let_time_pass(&mut rng, &mut chart);
     rng.shuffle(&mut chart.arrows);
     chart
 }
@@ -89,6 +91,19 @@ fn zigzag(c: usize, back: usize) -> Chart {
     chart
 }
 
+/// The chain with rings of eight states that are gone round in no time; only from the last of a ring it goes on.
+fn rings(c: usize) -> Chart {
+    let (long, mut chart) = (c as u16 / 25, chain(c, STATES - 1));
+    for (j, a) in chart.arrows.iter_mut().enumerate() {
+        let (back, last) = (j % 2 == 0, a.start % 8 == 7);
+        (a.fewest, a.most) = if last && !back { (long, long + long / 4) } else { (0, 0) };
+        if back {
+            a.end = a.start / 8 * 8;
+        }
+    }
+    chart
+}
+
 fn test(list: &mut Vec<Named>, name: &str, chart: &Chart, c: usize) {
     let name = format!("large: {name}, bound {c}");
     add(list, &name, exact(chart, &four_untils(c)), Expected::Outcome(0, 0));
@@ -108,6 +123,7 @@ fn counts(list: &mut Vec<Named>) {
     test("chain", chain(c, STATES - 1));
     test("zigzag", zigzag(c, STATES - 1));
     test("zigzag-loop", zigzag(c, 0));
+    test("rings", rings(c));
 }
 
 pub fn all(list: &mut Vec<Named>) {
@@ -119,6 +135,7 @@ pub fn all(list: &mut Vec<Named>) {
         test(list, &format!("random up to {minutes} minutes or no end"), &random(minutes, true), c);
         test(list, &format!("waiting, up to {minutes} minutes"), &waiting(minutes), c);
     }
+    test(list, "rings", &rings(2_500), 2_500);
     for c in [2_500, 65_535] {
         test(list, "chain", &chain(c, STATES - 1), c);
         test(list, "zigzag", &zigzag(c, STATES - 1), c);

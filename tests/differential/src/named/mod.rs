@@ -1,4 +1,4 @@
-//! 01's own cases, with the answer written beside each.
+//! The papers' own cases, with the answer written beside each.
 
 pub mod charts;
 pub mod counts;
@@ -7,5 +7,7 @@ pub mod items;
 pub mod large;
 pub mod maps;
 pub mod minutes;
+pub mod passing;
 pub mod rules;
 pub mod shows;
+pub mod timelocks;

@@ -6,6 +6,7 @@ use crate::bytes::rule::{self, node, plain, Node, A, AND, E, LABEL, NOT, TRUE};
 use crate::cases::case::Case;
 use crate::named::charts::List;
 use crate::named::expected::{add, loops, one, short, show, Expected};
+use crate::named::passing::{handing, staying, turning};
 
 const AT_MOST: u8 = 1;
 const AT_LEAST: u8 = 2;
@@ -103,8 +104,8 @@ fn buffers(list: &mut List) {
     test("row 62: a run of no step, 5 bytes", [2, 2], 771, 5, refused(62));
     test("row 62: a run of no step, no output", [2, 2], 771, 0, refused(62));
     test("row 62 passed: a run of no step, 6 bytes", [2, 2], 771, 6, Expected::Run("000200000000"));
-    let looped = Chart { labels: vec![0], arrows: vec![arrow(0, 0, 0, 3)] };
-    add(list, "19 goes before 60", last(&looped, &waiting(1), 1, 0), refused(19));
+    let still = Chart { labels: vec![0], arrows: vec![arrow(0, 0, 0, 0)] };
+    add(list, "19 goes before 60", last(&still, &waiting(1), 1, 0), refused(19));
     let nodes = rule::bytes(&eventually(E, AT_MOST, 2, 5));
     add(list, "17 goes before 60", show((short().bytes(), nodes), 8, 0, [3, 3], 0), refused(17));
 }
@@ -159,6 +160,42 @@ fn operands(list: &mut List) {
     test("A met by the second alone", [1, 2, 0], first_second(A, AT_MOST, 1), Expected::Outcome(60, 0));
 }
 
+/// Loops that can be taken in no time: a run goes round one only if time passes there, and never stays at one moment for
+/// ever.
+fn in_no_time(list: &mut List) {
+    let mut test = |name: &str, chart: Chart, nodes: Vec<Node>, state, expected| {
+        add(list, name, last(&chart, &nodes, state, 1_542), expected);
+    };
+    let (most, least) = (|c| eventually(A, AT_MOST, 0, c), |c| eventually(E, AT_LEAST, 0, c));
+    let handed = || handing((0, 3), (0, 3));
+    test("0 to 3 each way, A at most 2", handed(), most(2), 0, Expected::Run("000000000003000100000000"));
+    test("0 to 3 each way, A at most 3, marked", handed(), most(3), 0, Expected::Outcome(60, 0));
+    test("0 to 3 each way, E at least 99 from 0", handed(), least(99), 0, Expected::Steps(33));
+    test("0 to 3 each way, E at least 99 from 1", handed(), least(99), 1, Expected::Steps(34));
+    let round = "000100000003000000000003000100000000";
+    test("0 to 3 each way, E at least 6 from 1", handed(), least(6), 1, Expected::Run(round));
+    test("staying 0 to 0, A at most 0, marked", staying((0, 0)), most(0), 0, Expected::Outcome(60, 0));
+    let stayed = "000000000001000000000000";
+    test("staying 0 to 1, A at most 0", staying((0, 1)), most(0), 0, Expected::Run(stayed));
+    test("staying 0 to 3, A at most 255", staying((0, 3)), most(255), 0, Expected::Steps(86));
+    test("staying 0 to no end, A at most 65,535", staying((0, NO_END)), most(65_535), 0, Expected::Steps(1));
+    let left = eventually(E, AT_MOST, 0, 0);
+    test("staying 0 to 0, E at most 0", staying((0, 0)), left, 0, Expected::Run("000000000000000100000000"));
+    test("staying 0 to 0, E at least 3", staying((0, 0)), least(3), 0, Expected::Steps(4));
+    let out = "000000000000000100000004000200000000";
+    test("turning 0 to 0, A at most 3 from 0", turning((0, 0)), most(3), 0, Expected::Run(out));
+    test("turning 0 to 0, A at most 3 from 1", turning((0, 0)), most(3), 1, Expected::Run(&out[12..]));
+    test("turning 0 to 0, A at most 4, marked", turning((0, 0)), most(4), 0, Expected::Outcome(60, 0));
+    let turned = "000000000001000100000004000200000000";
+    test("turning 0 to 1, A at most 4 from 0", turning((0, 1)), most(4), 0, Expected::Run(turned));
+    test("turning 0 to 1, A at most 4 from 1", turning((0, 1)), most(4), 1, Expected::Steps(3));
+    let single = || Chart { labels: vec![0], arrows: vec![arrow(0, 0, 0, 1), arrow(0, 0, 0, 0)] };
+    test("0 to 1 or 0 to 0, A at most 255", single(), most(255), 0, Expected::Steps(256));
+    test("0 to 1 or 0 to 0, A at most 256", single(), most(256), 0, Expected::Outcome(62, 0));
+    test("0 to 1 or 0 to 0, E at least 256", single(), waiting(256), 0, Expected::Steps(256));
+    test("0 to 1 or 0 to 0, E at least 257", single(), waiting(257), 0, Expected::Outcome(62, 0));
+}
+
 pub fn all(list: &mut List) {
     papers(list);
     out_of_range(list);
@@ -166,4 +203,5 @@ pub fn all(list: &mut List) {
     buffers(list);
     long(list);
     operands(list);
+    in_no_time(list);
 }

@@ -57,10 +57,22 @@ fn papers(list: &mut List) {
     let bare = Chart { labels: vec![0; 3], arrows: vec![arrow(0, 1, 1, 1), arrow(1, 0, 1, 1)] };
     let refused = files(bare.bytes(), listed_rule());
     add(list, "the paper's refusal", refused, "refused 9 at 2\n", calls(&[], &[]));
-    // The reader asks for 1 to 9 alone.
-    let looped = Chart { labels: vec![0], arrows: vec![arrow(0, 0, 0, 3)] };
-    let refused = files(looped.bytes(), listed_rule());
-    add(list, "a loop of fewest 0", refused, "refused 19 at 0\n", calls(&[], &looped.arrows));
+}
+
+/// The reader asks for 1 to 9 alone.
+fn timelocks(list: &mut List) {
+    let mut test = |name: &str, n: usize, arrows: Vec<Arrow>, listing: &str| {
+        let calls = calls(&[], &arrows);
+        add(list, name, files(Chart { labels: vec![0; n], arrows }.bytes(), listed_rule()), listing, calls);
+    };
+    test("a 0 to 0 self loop", 1, vec![arrow(0, 0, 0, 0)], "refused 19 at 0\n");
+    let beside_1 = |most| vec![arrow(0, 0, 1, 1), arrow(1, 0, 1, 1), arrow(2, 2, 0, most)];
+    test("a 0 to 0 loop of state 2", 3, beside_1(0), "refused 19 at 2\n");
+    test("a 0 to 1 loop of state 2", 3, beside_1(1), "states 3 nodes 3\n0 111\n1 000\n2 000\n");
+    test("a self loop of 0 to 3", 1, vec![arrow(0, 0, 0, 3)], "states 1 nodes 3\n0 1\n1 0\n2 0\n");
+    let handing = vec![arrow(0, 1, 0, 3), arrow(1, 0, 0, 3)];
+    test("0 to 3 minutes each way", 2, handing, "states 2 nodes 3\n0 11\n1 00\n2 00\n");
+    test("0 to 0 each way", 2, vec![arrow(0, 1, 0, 0), arrow(1, 0, 0, 0)], "refused 19 at 0\n");
 }
 
 /// What can't be opened, or can't be read once it is, counts as empty.
@@ -82,6 +94,7 @@ fn unreadable(list: &mut List) {
 pub fn all() -> List {
     let mut list = Vec::new();
     papers(&mut list);
+    timelocks(&mut list);
     unreadable(&mut list);
     limits_length::all(&mut list);
     limits_rows::all(&mut list);

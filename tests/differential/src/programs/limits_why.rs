@@ -3,6 +3,7 @@
 use crate::bytes::chart::{arrow, Chart, NO_END};
 use crate::bytes::rule::{self, node, plain, Node, A, E, LABEL, TRUE};
 use crate::named::expected::{one, short};
+use crate::named::passing::{handing, staying, turning};
 use crate::programs::files::{Files, Pair};
 use crate::programs::limits::{calls, files, List, SHORT_CALLS};
 use crate::programs::why::Why;
@@ -65,8 +66,27 @@ fn of_others(list: &mut List) {
     add(list, "a duration above 65,535", both, texts, 0, None);
 }
 
+/// Loops that can be taken in no time; label 0 is at the last state.
+fn in_no_time(list: &mut List) {
+    let mut test = |name: &str, chart: Chart, (operation, kind, c), marks: &str, state, run: &str| {
+        let both = files(chart.bytes(), rule::bytes(&eventually(operation, kind, 0, c)));
+        let n = chart.states();
+        let listing = format!("states {n} nodes 3\n0 {}\n1 {}1\n2 {marks}\n", "1".repeat(n), "0".repeat(n - 1));
+        add(list, name, both, [listing, calls(&[], &chart.arrows)], state, Some(run));
+    };
+    let round = "1 at 0: 3 minutes to 0\n0 at 3: 3 minutes to 1\n1 at 6: until met at 6\n";
+    test("0 to 3 each way, at least 6", handing((0, 3), (0, 3)), (E, 2, 6), "11", 1, round);
+    let late = "0 at 0: 3 minutes to 1\n1 at 3: above 2\n";
+    test("0 to 3 each way, A", handing((0, 3), (0, 3)), (A, 1, 2), "01", 0, late);
+    test("staying 0 to 0, A, marked", staying((0, 0)), (A, 1, 0), "11", 0, "refused 60 at 0\n");
+    test("staying 0 to 1, A", staying((0, 1)), (A, 1, 0), "01", 0, "0 at 0: 1 minutes to 0\n0 at 1: above 0\n");
+    let out = "0 at 0: 0 minutes to 1\n1 at 0: 4 minutes to 2\n2 at 4: above 3\n";
+    test("turning 0 to 0, A", turning((0, 0)), (A, 1, 3), "001", 0, out);
+}
+
 pub fn all(list: &mut List) {
     of_short(list);
     of_one(list);
     of_others(list);
+    in_no_time(list);
 }

@@ -64,8 +64,8 @@ fn whole(rng: &mut Rng, chart: &Chart, mut rule: Vec<Node>) -> Case {
 
 /// Any chart and rule; bounds that are too great for a count are drawn anew.
 fn small(rng: &mut Rng) -> Case {
-    let zero_loops = rng.percent(10);
-    let chart = chart::random(rng, zero_loops);
+    let timelocks = rng.percent(10);
+    let chart = chart::random(rng, timelocks);
     let mut rule = if rng.percent(50) { trees::random(rng, &chart) } else { trees::single(rng, &chart) };
     let anew = rng.percent(20);
     for until in rule.iter_mut().filter(|node| is_until(node)) {
@@ -98,13 +98,18 @@ fn until_rule(rng: &mut Rng, c: u16) -> Vec<Node> {
     rule
 }
 
-fn line(rng: &mut Rng) -> Case {
+/// A line of states and a rule for it.
+pub fn lined(rng: &mut Rng) -> (Chart, Vec<Node>) {
     let c = bound(rng);
     let mut chart = timed_lines::random(rng, c.into());
     if rng.below(25) == 0 {
-        faults::zero_loop(rng, &mut chart);
+        faults::timelock(rng, &mut chart);
     }
-    let rule = until_rule(rng, c);
+    (chart, until_rule(rng, c))
+}
+
+fn line(rng: &mut Rng) -> Case {
+    let (chart, rule) = lined(rng);
     whole(rng, &chart, rule)
 }
 

@@ -1,9 +1,10 @@
 //! Charts with several ways from every state, and an until over two labels: the fewest steps are not the fewest minutes,
 //! and the first operand decides which ways there are.
 
-use crate::bytes::chart::{arrow, without_zero_loops, Chart, Slots};
+use crate::bytes::chart::{arrow, Chart, Slots};
 use crate::bytes::rule::{node, plain, Node, A, E, LABEL};
 use crate::random::rng::Rng;
+use crate::random::timelocks::let_time_pass;
 
 fn chart(rng: &mut Rng) -> Chart {
     let n = rng.within(3, 10);
@@ -21,7 +22,7 @@ fn chart(rng: &mut Rng) -> Chart {
     let rare = rng.pick(&[10, 30, 50]);
     let word = |rng: &mut Rng| u16::from(rng.percent(80)) | u16::from(rng.percent(rare)) << 1;
     let mut chart = Chart { labels: (0..n).map(|_| word(rng)).collect(), arrows };
-    without_zero_loops(rng, &mut chart);
+    let_time_pass(rng, &mut chart);
     rng.shuffle(&mut chart.arrows);
     chart
 }

@@ -45,16 +45,13 @@ fn state_without_arrow(rng: &mut Rng, chart: &mut Chart) {
     }
 }
 
-/// A loop of one, two or three arrows whose fewest are 0.
-pub fn zero_loop(rng: &mut Rng, chart: &mut Chart) {
-    let n = chart.states();
-    let length = rng.within(1, 3).min(n.max(1));
-    let mut way: Vec<usize> = (0..n.max(1)).collect();
-    rng.shuffle(&mut way);
-    for i in 0..length {
-        let most = rng.pick(&[0, 0, 3, 65_535]);
-        let at = rng.below(chart.arrows.len() + 1);
-        chart.arrows.insert(at, arrow(way[i], way[(i + 1) % length], 0, most));
+/// One, two or three states that arrows of 0 to 0 alone leave, and only for one another.
+pub fn timelock(rng: &mut Rng, chart: &mut Chart) {
+    let mut locked: Vec<usize> = (0..chart.states()).collect();
+    rng.shuffle(&mut locked);
+    locked.truncate(rng.within(1, 3));
+    for a in chart.arrows.iter_mut().filter(|a| locked.contains(&(a.start as usize))) {
+        (a.end, a.fewest, a.most) = (rng.pick(&locked) as u16, 0, 0);
     }
 }
 
@@ -75,7 +72,7 @@ pub fn chart(rng: &mut Rng, chart: &mut Chart) {
         0 | 1 => wrong_state(rng, chart),
         2 | 3 => wrong_slot(rng, chart),
         4 | 5 => state_without_arrow(rng, chart),
-        6 | 7 => zero_loop(rng, chart),
+        6 | 7 => timelock(rng, chart),
         _ => wrong_counts(rng, chart),
     }
 }

@@ -1,7 +1,7 @@
 //! Random cases by number: case i depends on the seed and i alone.
 
-use crate::bytes::chart;
-use crate::bytes::rule;
+use crate::bytes::chart::{self, Chart};
+use crate::bytes::rule::{self, Node};
 use crate::cases::case::{Case, Lent};
 use crate::random::counts;
 use crate::random::damage;
@@ -29,13 +29,23 @@ pub fn lent(rng: &mut Rng, exact: usize) -> Lent {
     Lent::new(length, rng.next())
 }
 
-fn whole_check(rng: &mut Rng) -> Case {
-    let zero_loops = rng.percent(25);
-    let chart = chart::random(rng, zero_loops);
-    let rule = trees::random(rng, &chart);
+fn check_with(rng: &mut Rng, chart: &Chart, rule: &[Node]) -> Case {
     let marks = lent(rng, chart.states() * rule.len());
     let scratch = lent(rng, 4 * chart.states());
-    Case::Check { chart: chart.bytes(), rule: rule::bytes(&rule), marks, scratch }
+    Case::Check { chart: chart.bytes(), rule: rule::bytes(rule), marks, scratch }
+}
+
+fn whole_check(rng: &mut Rng) -> Case {
+    let timelocks = rng.percent(25);
+    let chart = chart::random(rng, timelocks);
+    let rule = trees::random(rng, &chart);
+    check_with(rng, &chart, &rule)
+}
+
+/// A line whose minutes count would go through.
+fn lined_check(rng: &mut Rng) -> Case {
+    let (chart, rule) = counts::lined(rng);
+    check_with(rng, &chart, &rule)
 }
 
 /// Minutes and bounds up to the largest, where a number of 16 bits would no longer do.
@@ -90,7 +100,8 @@ fn kind(rng: &mut Rng) -> Case {
 fn check_of(rng: &mut Rng, share: usize) -> Case {
     match share {
         0..=1 => great_check(rng),
-        2..=41 => whole_check(rng),
+        2..=6 => lined_check(rng),
+        7..=41 => whole_check(rng),
         _ => damaged_check(rng),
     }
 }

@@ -12,16 +12,21 @@ pub struct Long {
     pub steps: usize,
 }
 
-/// State i leads to state i + 1, the last one back into the line; every arrow takes up to so many minutes.
+/// State i leads to state i + 1, the last one back into the line; every arrow takes up to so many minutes, on some lines
+/// from 0 up.
 fn lasso(rng: &mut Rng, n: usize, minutes: u16) -> Chart {
-    let back = rng.below(n);
+    let (back, least) = (rng.below(n), rng.below(2));
     let mut arrows: Vec<Arrow> = Vec::new();
     for start in 0..n {
         let end = if start + 1 < n { start + 1 } else { back };
-        arrows.push(arrow(start, end, rng.within(1, minutes as usize) as u16, minutes));
+        arrows.push(arrow(start, end, rng.within(least, minutes as usize) as u16, minutes));
         // One beside it that is no quicker and no slower, so that several runs are right.
         if rng.percent(10) {
             arrows.push(arrow(start, end, minutes, minutes));
+        }
+        // Round it steps are taken for nothing.
+        if rng.percent(4) {
+            arrows.push(arrow(start, start, 0, 0));
         }
     }
     // Label 0 everywhere, label 1 at the last state alone.

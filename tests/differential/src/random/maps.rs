@@ -5,6 +5,7 @@ use crate::cases::case::Case;
 use crate::random::damage;
 use crate::random::faults;
 use crate::random::rng::Rng;
+use crate::random::timelocks;
 
 struct Pair {
     overview: Chart,
@@ -46,6 +47,15 @@ fn under(rng: &mut Rng, overview: &Chart, map: &[u16], start: usize) -> Arrow {
     arrow(start, rng.pick(&ends), fewest, most)
 }
 
+/// Its arrows give way to those of its overview state, none of them narrowed: so whatever the overview can go round, it can.
+fn as_the_overview(rng: &mut Rng, pair: &mut Pair, state: usize) {
+    pair.detail.arrows.retain(|a| a.start as usize != state);
+    for over in pair.overview.arrows.iter().filter(|a| a.start == pair.map[state]) {
+        let ends: Vec<usize> = (0..pair.map.len()).filter(|&d| pair.map[d] == over.end).collect();
+        pair.detail.arrows.push(arrow(state, rng.pick(&ends), over.fewest, over.most));
+    }
+}
+
 fn pair(rng: &mut Rng) -> Pair {
     let overview = chart::random(rng, false);
     let map = copies(rng, &overview);
@@ -56,8 +66,13 @@ fn pair(rng: &mut Rng) -> Pair {
             arrows.push(under(rng, &overview, &map, start));
         }
     }
-    rng.shuffle(&mut arrows);
-    Pair { overview, detail: Chart { labels, arrows }, map }
+    let mut pair = Pair { overview, detail: Chart { labels, arrows }, map };
+    if rng.percent(90) {
+        let locked = timelocks::of(&pair.detail);
+        locked.into_iter().for_each(|state| as_the_overview(rng, &mut pair, state));
+    }
+    rng.shuffle(&mut pair.detail.arrows);
+    pair
 }
 
 /// One detail arrow leaves the slot that covered it by a minute, or for good.
@@ -133,8 +148,8 @@ fn fault(rng: &mut Rng, pair: &mut Pair) {
         6 | 7 if !pair.map.is_empty() => wrong_entry(rng, pair),
         8 | 9 => wrong_label(rng, pair),
         10 => wrong_count(rng, pair),
-        11 => faults::zero_loop(rng, &mut pair.detail),
-        12 => faults::zero_loop(rng, &mut pair.overview),
+        11 => faults::timelock(rng, &mut pair.detail),
+        12 => faults::timelock(rng, &mut pair.overview),
         _ => {}
     }
 }

@@ -13,4 +13,5 @@ pub mod rows;
 pub mod shows;
 pub mod telling;
 pub mod timed_lines;
+pub mod timelocks;
 pub mod trees;

@@ -2,7 +2,7 @@
 //! shortest that are enough.
 
 use crate::bytes::chart::{self, Chart};
-use crate::bytes::rule::{self, Node};
+use crate::bytes::rule::{self, node, plain, Node, A, E, LABEL};
 use crate::cases::case::{Case, Lent};
 use crate::random::asked;
 use crate::random::dense_runs;
@@ -10,6 +10,7 @@ use crate::random::generate::{damaged_check, lent};
 use crate::random::long_runs;
 use crate::random::rng::Rng;
 use crate::random::telling;
+use crate::random::timed_lines;
 use crate::random::trees;
 
 /// Bytes that are enough for every run.
@@ -54,8 +55,8 @@ fn whole(rng: &mut Rng, chart: &Chart, rule: &[Node], steps: usize) -> Case {
 }
 
 fn small(rng: &mut Rng) -> Case {
-    let zero_loops = rng.percent(5);
-    let chart = chart::random(rng, zero_loops);
+    let timelocks = rng.percent(5);
+    let chart = chart::random(rng, timelocks);
     if rng.percent(30) {
         let (rule, steps) = (trees::random(rng, &chart), few_steps(rng));
         return whole(rng, &chart, &rule, steps);
@@ -66,6 +67,15 @@ fn small(rng: &mut Rng) -> Case {
 
 fn dense(rng: &mut Rng) -> Case {
     let (chart, rule) = dense_runs::random(rng);
+    open(rng, &chart, &rule)
+}
+
+/// One until over the labels of a line.
+fn lined(rng: &mut Rng) -> Case {
+    let c = rng.below(20);
+    let chart = timed_lines::random(rng, c);
+    let (operation, kind) = rng.pick(&[(E, 1), (E, 2), (A, 1), (A, 1)]);
+    let rule = [plain(LABEL, 0, 0), plain(LABEL, 1, 0), node(operation, kind, 0, 1, c)];
     open(rng, &chart, &rule)
 }
 
@@ -92,7 +102,7 @@ fn starting(mut case: Case, start: Option<usize>) -> Case {
 fn great(rng: &mut Rng) -> Case {
     let chart = chart::great(rng);
     let mut rule = trees::great(rng, &chart);
-    for until in rule.iter_mut().filter(|node| node.operation == rule::A) {
+    for until in rule.iter_mut().filter(|node| node.operation == A) {
         telling::mostly_at_most(rng, until);
         // Past the largest bound in one step: a duration that 16 bits don't hold.
         if rng.percent(50) {
@@ -126,7 +136,8 @@ pub fn random(rng: &mut Rng) -> Case {
         0 => great(rng),
         1 | 2 => long(rng),
         3..=5 => damaged(rng),
-        6..=12 => dense(rng),
+        6..=10 => dense(rng),
+        11 | 12 => lined(rng),
         _ => small(rng),
     }
 }

@@ -1,20 +1,22 @@
-//! Lines of states for an until: slots about its bound or about a part of it, and arrows of no time in a row, listed and
-//! numbered along the line or against it.
+//! Lines of states for an until: slots about its bound or about a part of it, arrows of no time in a row and round, listed
+//! and numbered along the line or against it.
 
 use crate::bytes::chart::{arrow, Arrow, Chart, NO_END};
 use crate::random::rng::Rng;
+use crate::random::timelocks::let_time_pass;
 
-/// The minutes of one line: the bound they are made for, how many arrows in 100 can take no time, and whether these can
-/// take longer.
+/// The minutes of one line: the bound they are made for, how many arrows in 100 can take no time, whether these can take
+/// longer, and whether those that lead back are among them.
 struct Minutes {
     c: usize,
     none: usize,
     at_will: bool,
+    back: bool,
 }
 
 impl Minutes {
     fn random(rng: &mut Rng, c: usize) -> Minutes {
-        Minutes { c, none: rng.pick(&[0, 30, 60, 90, 100]), at_will: rng.percent(50) }
+        Minutes { c, none: rng.pick(&[0, 30, 60, 90, 100]), at_will: rng.percent(50), back: rng.percent(60) }
     }
 
     /// The bound or about half of it, or a minute beside; so that one arrow comes to the bound, or two.
@@ -48,19 +50,24 @@ fn size(rng: &mut Rng, c: usize) -> usize {
     rng.within(2, 12)
 }
 
-/// State i leads to state i + 1, the last one back into the line. Only arrows that lead on may take no time.
+/// State i leads to state i + 1, the last one back into the line. On some lines others lead anywhere, or a little way back in
+/// no time.
 fn arrows(rng: &mut Rng, n: usize, minutes: &Minutes) -> Vec<Arrow> {
-    let mut made = Vec::new();
-    let mut add = |rng: &mut Rng, start: usize, end: usize| {
-        let (fewest, most) = minutes.slot(rng, usize::from(end <= start));
-        made.push(arrow(start, end, fewest, most));
+    let (anywhere, little_back) = (rng.pick(&[8, 8, 35]), rng.pick(&[0, 0, 15, 40]));
+    let timed = |rng: &mut Rng, start: usize, end: usize| {
+        let (fewest, most) = minutes.slot(rng, usize::from(end <= start && !minutes.back));
+        arrow(start, end, fewest, most)
     };
+    let mut made = Vec::new();
     for start in 0..n {
         let end = if start + 1 < n { start + 1 } else { rng.below(n) };
-        add(rng, start, end);
-        if rng.percent(8) {
+        made.push(timed(rng, start, end));
+        if rng.percent(anywhere) {
             let end = rng.below(n);
-            add(rng, start, end);
+            made.push(timed(rng, start, end));
+        }
+        if rng.percent(little_back) {
+            made.push(arrow(start, start.saturating_sub(rng.below(4)), 0, 0));
         }
     }
     made
@@ -84,11 +91,12 @@ fn ordered<T>(rng: &mut Rng, items: &mut [T]) {
     }
 }
 
-/// A line without loops of zeros.
+/// A line that passes 19.
 pub fn random(rng: &mut Rng, c: usize) -> Chart {
     let n = size(rng, c);
     let minutes = Minutes::random(rng, c);
     let mut chart = Chart { labels: labels(rng, n), arrows: arrows(rng, n, &minutes) };
+    let_time_pass(rng, &mut chart);
     let mut number: Vec<usize> = (0..n).collect();
     ordered(rng, &mut number);
     chart.renumber(&number);

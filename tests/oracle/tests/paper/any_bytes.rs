@@ -3,8 +3,8 @@
 use crate::make::{label, map, rule, run, short, undo, Numbers, TRUE};
 use crate::show_call::call;
 use oracle::{
-    arrow, calls_text, check, count, counted_listing, fewest_steps, judge_run, judge_why, kind_of_rule, listing,
-    map_check, why_text,
+    arrow, calls_text, check, count, counted_listing, fewest_steps, has_leavable_loop_of_0_to_0, has_loop_of_fewest_0,
+    judge_run, judge_why, kind_of_rule, listing, map_check, why_text,
 };
 
 /// Some bytes replaced, then cut or lengthened now and then.
@@ -35,6 +35,8 @@ fn damaged_bytes() {
         counted_listing(&chart, &rule);
         calls_text(&chart, &rule, &map);
         arrow(&chart, numbers.below(5) as usize);
+        has_loop_of_fewest_0(&chart);
+        has_leavable_loop_of_0_to_0(&chart);
     }
 }
 

@@ -18,7 +18,7 @@ fn accepted() {
 
 #[test]
 fn refused_19_clears_scratch_and_keeps_marks() {
-    let looped = chart(&[0, 0], &[[0, 1, 0, 1], [1, 0, 0, 1]]);
+    let looped = chart(&[0, 0], &[[0, 1, 0, 0], [1, 0, 0, 0]]);
     let (marks, scratch) = buffers_after(&looped, &rule(&[TRUE]), 19);
     assert_eq!(marks, [7; 12]);
     assert_eq!(scratch, [0, 0, 0, 0, 0, 0, 0, 0, 9, 9, 9, 9, 9, 9]);

@@ -57,8 +57,8 @@ fn bytes_missing_from_the_ask_count_as_0() {
 fn refused_bytes_are_finished_at_once() {
     let longer = [short(), vec![0]].concat();
     assert_eq!(calls_text(&longer, &[], &[0, 0, 40, 0, 0]).lines().nth(1), NOTHING_READ.lines().next());
-    let looped = chart(&[0], &[[0, 0, 0, 3]]);
-    assert_eq!(calls_text(&looped, &[], &[]), "row\n0: 0 0 0 3, then finished\n1: finished, then finished\n");
+    let looped = chart(&[0], &[[0, 0, 0, 0]]);
+    assert_eq!(calls_text(&looped, &[], &[]), "row\n0: 0 0 0 0, then finished\n1: finished, then finished\n");
 }
 
 #[test]

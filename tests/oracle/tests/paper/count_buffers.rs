@@ -22,7 +22,7 @@ fn accepted() {
 
 #[test]
 fn refused_19_clears_scratch_and_keeps_marks() {
-    let looped = chart(&[0, 0], &[[0, 1, 0, 1], [1, 0, 0, 1]]);
+    let looped = chart(&[0, 0], &[[0, 1, 0, 0], [1, 0, 0, 0]]);
     assert_eq!(after(&looped, &rule(&[TRUE]), 520), (19, vec![7; 10], 512));
 }
 

@@ -54,7 +54,7 @@ fn rows_17_to_19() {
         assert_eq!(with_room(&short(), &rule, 3 * k, 12), (18, 0));
         assert_eq!(with_room(&short(), &rule, 3 * k, 768), (0, 0));
     }
-    let looped = chart(&[0; 2], &[[0, 0, 1, 1], [1, 1, 0, 3]]);
+    let looped = chart(&[0; 2], &[[0, 0, 1, 1], [1, 1, 0, 0]]);
     assert_eq!(with_room(&looped, &rule(&[TRUE]), 2, 511), (18, 0));
     assert_eq!(with_room(&looped, &rule(&[TRUE]), 2, 512), (19, 1));
 }

@@ -26,7 +26,7 @@ impl Tiny {
     }
 
     fn arrow(numbers: &mut Numbers, n: u64, start: u64) -> ArrowFields {
-        let fewest = numbers.below(3) as u16;
+        let fewest = [0, 0, 1, 2][numbers.below(4) as usize];
         let most = if numbers.below(8) == 0 { NO_END } else { fewest + numbers.below(3) as u16 };
         [start as u16, numbers.below(n) as u16, fewest, most]
     }

@@ -1,20 +1,8 @@
 //! The thirteen items and the listing.
 
-use crate::make::{label, not, one, rule, short, undo, NodeFields, A, AT_LEAST, AT_MOST, E, TRUE};
-use oracle::{check, count, listing, Outcome};
-
-/// Marks of the last node, states in order. Count marks the same if the bound isn't above 255.
-fn last_marks(chart: &[u8], nodes: &[NodeFields]) -> String {
-    let n = usize::from(chart[6]);
-    let (mut marks, mut counted) = (vec![7; n * nodes.len()], vec![7; n * nodes.len()]);
-    let outcome = check(chart, &rule(nodes), &mut marks, &mut vec![9; 4 * n]);
-    assert_eq!(outcome, Outcome { number: 0, place: 0 });
-    match count(chart, &rule(nodes), &mut counted, &mut vec![9; 256 * n]).number {
-        63 => assert!(nodes[nodes.len() - 1].4 > 255),
-        number => assert_eq!((number, &counted), (0, &marks)),
-    }
-    marks[n * (nodes.len() - 1)..].iter().map(|mark| mark.to_string()).collect()
-}
+use crate::last_marks::last_marks;
+use crate::make::{label, not, one, short, undo, NodeFields, A, AT_LEAST, AT_MOST, E, TRUE};
+use oracle::listing;
 
 /// True until L2.
 fn true_l2(operation: u8, kind: u8, c: u16) -> Vec<NodeFields> {

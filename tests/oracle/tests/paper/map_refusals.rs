@@ -10,7 +10,7 @@ fn refused(detail: &[u8], overview: &[u8], map: &[u8]) -> (u32, u32) {
 
 #[test]
 fn charts_first() {
-    let looped = chart(&[0], &[[0, 0, 0, 3]]);
+    let looped = chart(&[0], &[[0, 0, 0, 0]]);
     let dead_end = chart(&[0, 0], &[[0, 0, 1, 1]]);
     assert_eq!(refused(&[], &[], &[]), (1, 0));
     assert_eq!(refused(&dead_end, &[], &[]), (9, 1));

@@ -68,11 +68,11 @@ fn other_bytes_are_finished_at_once() {
 
 /// Check 19 isn't asked for.
 #[test]
-fn a_loop_of_fewest_0_is_read() {
-    let looped = chart(&[0], &[[0, 0, 0, 3], [0, 0, 7, 7]]);
+fn a_loop_of_0_to_0_is_read() {
+    let looped = chart(&[0, 0], &[[1, 1, 0, 0], [0, 1, 7, 7]]);
     assert_eq!(map_check(&looped, &[], &[]).number, 19);
-    assert_eq!(fields(&looped, 0), Some([0, 0, 0, 3]));
-    assert_eq!(fields(&looped, 1), Some([0, 0, 7, 7]));
+    assert_eq!(fields(&looped, 0), Some([1, 1, 0, 0]));
+    assert_eq!(fields(&looped, 1), Some([0, 1, 7, 7]));
     assert_eq!(fields(&looped, 2), None);
 }
 

@@ -52,7 +52,7 @@ fn refusals() {
     own(&short(), &true_l2(E, AT_MOST, 4), 0, "refused 60 at 0\n");
     own(&short(), &true_l2(E, AT_MOST, 5), 3, "refused 60 at 0\n");
     own(&one(), &true_true(E, AT_LEAST, 257), 0, "refused 62 at 0\n");
-    own(&chart(&[0], &[[0, 0, 0, 3]]), &true_true(E, AT_MOST, 0), 0, "refused 19 at 0\n");
+    own(&chart(&[0], &[[0, 0, 0, 0]]), &true_true(E, AT_MOST, 0), 0, "refused 19 at 0\n");
     assert!(judge_why(&short(), &true_l2(E, AT_MOST, 4), 2, 0, "refused 61 at 0\n").is_err());
     assert!(judge_why(&short(), &true_l2(E, AT_MOST, 4), 2, 0, SHORT_WITHIN_5).is_err());
 }

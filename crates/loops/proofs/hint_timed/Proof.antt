@@ -1,0 +1,71 @@
+-- Invariant: a state whose number is not 0 is left by an arrow with most above 0.
+use mathlib.Core.Path.{_≡_, refl, sym, ap, _∙_}
+use mathlib.Core.Logic.{⊎-elim}
+use Prim.Native.Nat.{ℕ, _≤_, _-_}
+use native.Mathlib.Omega.{arith}
+use denote.Ref.{now}
+use lib.ListN.{length, length-set}
+use Rattle.chart.specs.Bytes.{chartOf}
+use Rattle.chart.proofs.Reading.{shaped, counted}
+use Rattle.loops.specs.LeftInTime.{TimedUnlessZero}
+use Rattle.loops.proofs.LeftInTime.{timed-none, timed-more}
+use Rattle.loops.proofs.hint_timed.Statement.{statement}
+use Rattle.loops.proofs.hint_timed.Tie as tie
+
+abbrev Inv-loop : tie.InvT-loop
+Inv-loop chart n m numbers₀ i₀ numbers i = (i ≤ m) × (length numbers ≡ n) × TimedUnlessZero (chartOf chart) numbers
+
+abbrev μ-loop : tie.MeasureT-loop
+μ-loop chart n m numbers₀ i₀ numbers i = m - i
+
+-- the stops: the call, the numbers cleared, a turn, and an arrow read
+abbrev call : tie.After-clear-arg Inv-loop μ-loop → tie.Start Inv-loop μ-loop
+call c = c .before .before .before
+
+abbrev cleared : tie.After-slice-known2 Inv-loop μ-loop → tie.After-clear Inv-loop μ-loop
+cleared c = c .before .before
+
+abbrev start : tie.At-loop Inv-loop μ-loop → tie.Start Inv-loop μ-loop
+start c = call (cleared (c .before) .before)
+
+abbrev turn : tie.After-struct-known Inv-loop μ-loop → tie.In-loop Inv-loop μ-loop
+turn c = c .before .before
+
+abbrev read : tie.After-struct-known Inv-loop μ-loop → tie.After-arrow Inv-loop μ-loop
+read c = c .before
+
+loop-holds : tie.Need-loop-holds Inv-loop μ-loop
+loop-holds c =
+    (omega arith, cleared c .clear .kept .0 ∙ call (cleared c .before) .pre .1, timed-none (cleared c .clear .last .0) (cleared c .clear .ensures))
+
+arrow-requires : tie.Need-arrow-requires Inv-loop μ-loop
+arrow-requires c κs =
+    let p = start (c .before) .pre .0 in
+    (counted p, omega (arith, p .arrows, c .loop-test .taken))
+
+hinted-requires : tie.Need-hinted-requires Inv-loop μ-loop
+hinted-requires c κs =
+    let t = turn (c .before) in
+    (omega arith, omega (arith, t .loop-test .taken, shaped (start (t .before) .pre .0) .few-arrows))
+
+loop-again : tie.Need-loop-again Inv-loop μ-loop
+loop-again c =
+    let told = c .before in
+    let t = turn told in
+    let head = t .before in
+    let inv = head .loop .inv in
+    let call = start head in
+    let arrow = read told .arrow in (
+      omega arith,
+      ⊎-elim (λ x. rw (x .2) (simp length-set (inv .1))) (λ x. rw (x .1) (inv .1)) (c .if1 .came),
+      ⊎-elim
+          (λ x. rw (x .2) (timed-more (now (call .args .chart)) (head .loop .numbers) (x .1 .result) (inv .2) (arrow .result)
+          (head .loop .i) (omega (arith, call .pre .0 .arrows, t .loop-test .taken)) (arrow .ensures .0) (x .0 .taken)))
+          (λ x. rw (x .1) (inv .2)) (c .if1 .came),
+    )
+
+pub hint-timed-spec : {M : Type 1} → statement M
+hint-timed-spec =
+    tie.close
+    (tie.spec Inv-loop μ-loop (λ c κs. tt) loop-holds arrow-requires hinted-requires (λ c. omega arith) (λ c. omega arith)
+    (λ c. omega arith) (λ c. omega arith) loop-again (λ c. c .before .loop .inv .1 ∙ sym (start (c .before) .pre .1)) (λ c. c .before .loop .inv .2))
