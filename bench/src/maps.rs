@@ -1,10 +1,10 @@
 //! Inputs of the map check: detail chart, overview chart and map, with 2,048 arrows in each chart.
 
 use crate::bytes::{self, Arrow};
-use crate::families::{random_arrows, spread_labels};
+use crate::families::{self, random_arrows, spread_labels};
 use crate::random::Random;
 
-pub const NAMES: [&str; 6] = ["identity", "shuffled", "last-covers", "reversed", "apart", "quotient"];
+pub const NAMES: [&str; 7] = ["identity", "shuffled", "last-covers", "reversed", "apart", "quotient", "handover"];
 
 pub struct MapInput {
     pub detail: Vec<u8>,
@@ -24,6 +24,7 @@ pub fn input(name: &str) -> Option<MapInput> {
         "reversed" => Some(one_cover_each(|i| ARROWS - 1 - i)),
         "apart" => Some(one_cover_each(apart)),
         "quotient" => Some(quotient()),
+        "handover" => handover(),
         _ => None,
     }
 }
@@ -37,6 +38,13 @@ fn itself(reorder: impl Fn(&mut [Arrow])) -> MapInput {
     reorder(&mut arrows);
     let entries: Vec<u16> = (0..STATES as u16).collect();
     MapInput { detail, overview: bytes::chart(&labels, &arrows), map: bytes::map(&entries) }
+}
+
+/// The chart whose loops can be taken in no time against itself, so that row 19 is not passed at once.
+fn handover() -> Option<MapInput> {
+    let chart = families::chart("handover", STATES, ARROWS)?;
+    let entries: Vec<u16> = (0..STATES as u16).collect();
+    Some(MapInput { detail: chart.clone(), overview: chart, map: bytes::map(&entries) })
 }
 
 /// All detail states stand for the one overview state, and each detail arrow is covered by one overview arrow alone, at

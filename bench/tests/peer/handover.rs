@@ -26,6 +26,16 @@ fn pairs_hand_back_and_forth() {
     }
 }
 
+/// From every other state of the second half, but the last, no arrow takes time: that time can go on is not seen at once.
+#[test]
+fn some_states_are_left_in_no_time_alone() {
+    let arrows = arrows_of(&chart());
+    for s in 0..N {
+        let takes_time = arrows.iter().any(|arrow| usize::from(arrow.start) == s && arrow.most > 0);
+        assert_eq!(takes_time, s < N / 2 || s % 2 == 0 || s == N - 1, "{s}");
+    }
+}
+
 /// No way back, and one on: so each loop is left, for good, and the last state keeps all runs.
 #[test]
 fn all_lead_on_to_the_last_state() {

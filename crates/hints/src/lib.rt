@@ -78,19 +78,6 @@ pub fn turned(x: u32) -> u32
     x - x % HINT + x % SIDED + SIDED
 }
 
-// Each state's hint becomes the last arrow that is listed from it.
-pub fn start(chart: &[u8], n: usize, m: usize, numbers: &mut [u32])
-    requires { ⌜ Passed (now chart) n m × (length (now numbers) ≡ n) ⌝ }
-{
-    let mut i = 0;
-    while i < m {
-        let a = arrows::arrow(chart, n, i);
-        let s = a.start;
-        numbers[s] = hinted(0, 0, i);
-        i += 1;
-    }
-}
-
 // Time passed before, or can pass on an arrow with the word most.
 fn time_passes(passes: bool, most: u32) -> bool
     ensures { λ r. ⌜ r ≡ cond (eqb most 0) passes true ⌝ }

@@ -7,7 +7,6 @@ ghost use Rattle.outcome.specs.Refusal.{first};
 ghost use Rattle.chart.specs.Shape.{Passed};
 ghost use Rattle.rule.specs.Refusals.{ruleRefusal};
 ghost use Rattle.loops.specs.Refusal.{loopRow};
-ghost use Rattle.nodes.specs.Right.{numbersFor};
 ghost use Rattle.judge.specs.Judge.{ownRows, Promised};
 ghost use Rattle.judge.specs.Judged.{inputTable, Judgeable, Judged};
 use outcome::Outcome;
@@ -52,16 +51,6 @@ fn input_refusal(
     room::room_refusal(n, k, size, marks, scratch)
 }
 
-// For the first engine every state gets a first hint, of which nothing is promised; where minutes are counted nothing is done.
-fn prepare(counting: bool, chart: &[u8], n: usize, m: usize, numbers: &mut [u32])
-    requires { ⌜ Passed (now chart) n m × (length (now numbers) ≡ numbersFor counting n) ⌝ }
-{
-    if counting {
-        return;
-    }
-    hints::start(chart, n, m, numbers);
-}
-
 // Row 19, on the first n numbers.
 fn loop_row(chart: &[u8], n: usize, m: usize, numbers: &mut [u32]) -> Outcome
     requires { ⌜ Passed (now chart) n m × (n ≤ length (now numbers)) ⌝ }
@@ -70,7 +59,7 @@ fn loop_row(chart: &[u8], n: usize, m: usize, numbers: &mut [u32]) -> Outcome
     loops::loop_refusal(chart, n, m, &mut numbers[..n])
 }
 
-// Row 19; if it is not met every node is settled, from the last one down.
+// Row 19; if it is not met every node is settled, from the last one down, by the hints that row 19 leaves.
 fn judged(
     counting: bool,
     chart: &[u8],
@@ -88,7 +77,6 @@ fn judged(
     if loops.number != 0 {
         return loops;
     }
-    prepare(counting, chart, n, m, numbers);
     let last = k - 1;
     settle::settle(counting, chart, n, m, rule, last, marks, numbers);
     loops

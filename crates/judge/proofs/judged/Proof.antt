@@ -4,7 +4,7 @@ use borrow.Author.Needs.{needs}
 use Rattle.judge.proofs.judged.Statement.{statement}
 use Rattle.judge.proofs.judged.Tie as tie
 
--- the start, where row 19 is tested and passed, where it is prepared, and where the last node is settled
+-- the start, where row 19 is tested and passed, and where the last node is settled
 abbrev start : tie.After-loop-row-arg → tie.Start
 start c = c .before .before .before .before .before
 
@@ -14,20 +14,17 @@ looped c = c .before .before .before .before
 abbrev begun : tie.Else1 → tie.Start
 begun c = start (looped c .before)
 
-abbrev prepared : tie.After-slice-known4 → tie.Else1
-prepared c = c .before .before .before .before
-
 abbrev asked : tie.After-settle-arg2 → tie.Else1
-asked c = prepared (c .before .before)
+asked c = c .before .before
 
-abbrev settled : tie.After-slice-known6 → tie.After-settle
+abbrev settled : tie.After-slice-known5 → tie.After-settle
 settled c = c .before .before .before .before
 
 loop-row-requires : tie.Need-loop-row-requires
 loop-row-requires c κs = let r = start c .pre in (r .passed, numbers-enough r)
 
 sub-last : tie.Need-sub-last
-sub-last c = some-nodes (begun (prepared c) .pre)
+sub-last c = some-nodes (begun c .pre)
 
 settle-requires : tie.Need-settle-requires
 settle-requires c κs =
@@ -42,5 +39,5 @@ returns-2 c =
 pub judged-spec : {M : Type 1} → statement M
 judged-spec =
     tie.close
-    (tie.spec loop-row-requires (λ c. search needs) (λ c. search needs) (λ c κs. search needs) sub-last settle-requires
+    (tie.spec loop-row-requires (λ c. search needs) (λ c. search needs) sub-last settle-requires
     (λ c. search needs) (λ c. search needs) returns-2)
