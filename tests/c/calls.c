@@ -91,12 +91,12 @@ static void expect_counted(const uint8_t *listed, size_t cleared) {
 static void minutes_are_counted(void) {
     static const uint8_t listed[] = {1, 1, 1, 0, 0, 1, 0, 1, 1, 77};
     static const uint8_t lent[] = {77, 77, 77, 77, 77, 77, 77, 77, 77, 77};
-    uint8_t late_rule[sizeof rule], looped[sizeof short_chart];
+    uint8_t late_rule[sizeof rule], stuck[sizeof short_chart];
     size_t size = sizeof short_chart;
     memcpy(late_rule, rule, sizeof rule);
     late_rule[29] = 1; /* at most 269 */
-    memcpy(looped, short_chart, size);
-    looped[26] = 1, looped[28] = 0; /* the arrow of 0 to 4 leads back to state 1 */
+    memcpy(stuck, short_chart, size);
+    stuck[18] = 0, stuck[26] = 1, stuck[30] = 0; /* states 0 and 1 lead to themselves, 1 in 0 to 0 minutes */
     expect(is(counted(short_chart, size, rule, sizeof rule, 10, 769), 0, 0), "count refuses Short");
     expect_counted(listed, 768);
     expect(is(counted(short_chart, size, rule, sizeof rule, 9, 768), 0, 0), "what is just enough for a count is not");
@@ -106,7 +106,7 @@ static void minutes_are_counted(void) {
     expect_counted(lent, 0);
     expect(is(counted(short_chart, size, rule, sizeof rule, 9, 767), 18, 0), "767 numbers are not 18");
     expect_counted(lent, 0);
-    expect(is(counted(looped, size, rule, sizeof rule, 9, 769), 19, 1), "a loop of zeros is not 19");
+    expect(is(counted(stuck, size, rule, sizeof rule, 9, 769), 19, 1), "a state from which no time can pass is not 19");
     expect_counted(lent, 768);
     expect(is(doilystrand_count(NULL, 0, NULL, 0, NULL, 0, NULL, 0), 1, 0), "nothing at all is not 1");
 }

@@ -2,7 +2,7 @@
 -- unending sequence of steps passes every number.
 use mathlib.Core.Path.{_≡_, refl, sym, ap, subst, _∙_}
 use mathlib.Core.Logic.{_↔_, ⊎-map, by-cases, Iff·rfl, Iff·symm, Iff·trans, Iff·not, Iff·and}
-use mathlib.Core.List.{List, List·Memᴰ}
+use mathlib.Core.List.{List·Memᴰ}
 use Prim.Native.Nat.{ℕ, zero, suc, _+_, _≤_, _<_}
 use native.Mathlib.Omega.{arith}
 use native.Mathlib.Decide.{decLe}
@@ -16,8 +16,8 @@ use Rattle.tctl.specs.Holds.{Met, Holds}
 use Rattle.tctl.specs.Accepted.{Accepted, ReachesTimedLoop}
 use Rattle.tctl.proofs.Drawn.{Drawn, step-below, quickest}
 use Rattle.tctl.proofs.Path.{step-cast, weaken, steps-weaken, minutes-weaken}
-use Rattle.tctl.proofs.Run.{walk, moves, paces, unroll}
-use Rattle.tctl.proofs.Prefix.{first-steps}
+use Rattle.tctl.proofs.Run.{walk, moves, paces, unroll, State, onward}
+use Rattle.tctl.proofs.Prefix.{Steps, first-steps}
 use Rattle.tctl.proofs.Loop.{looped}
 use Rattle.tctl.proofs.Until.{met-map}
 use Rattle.model.proofs.TicksAhead.{run-iff}
@@ -29,11 +29,7 @@ use Rattle.chart.proofs.Chart.{states-of}
 use Rattle.chart.proofs.Reading.{drawn}
 use Rattle.rule.specs.Formula.{formulaAt}
 use Rattle.loops.proofs.Accepted.{accepted-by-meaning}
-use Rattle.claim_demands.specs.KeptCharts.{OnZeroLoop, AcceptedBefore, RunBefore, MetBefore, HoldsBefore, Kept, KeptCharts}
-
--- an unending sequence of steps
-abbrev Steps : Chart → (ℕ → ℕ) → (ℕ → ℕ) → Type 0
-Steps G state duration = (i : ℕ) → Step G (state i) (duration i) (state (suc i))
+use Rattle.claim_demands.specs.KeptCharts.{OnZeroLoop, RunBefore, MetBefore, HoldsBefore, KeptCharts}
 
 module _ {G : Chart} (dr : Drawn G) (timed : (s : ℕ) → ¬ OnZeroLoop G s) where
   -- ── Time passes ──
@@ -134,23 +130,22 @@ module _ {G : Chart} (dr : Drawn G) (timed : (s : ℕ) → ¬ OnZeroLoop G s) wh
   -- ── Every state reaches a loop on which time can pass ──
 
   module _ (leaves : (s : ℕ) → s < states G → (a : Arrow) × List·Memᴰ a (G .arrows) × (a .start ≡ s)) where
-    -- a state of the chart, and on by an arrow in its fewest minutes
-    abbrev onward : (x : (s : ℕ) × s < states G) → (y : (t : ℕ) × t < states G) × (d : ℕ) × Step G (x .0) d (y .0)
-    onward x =
-        let w = leaves (x .0) (x .1) in
+    leave : (s : ℕ) → s < states G → (t : ℕ) × (d : ℕ) × Step G s d t
+    leave s l =
+        let w = leaves s l in
         let a = w .0 in
-        ((a .end, dr .ends a (w .1)), a .fewest, step-cast (sym (w .2)) refl (quickest dr a (w .1)))
+        (a .end, a .fewest, step-cast (sym (w .2)) refl (quickest dr a (w .1)))
 
-    -- where it comes so, after i steps
-    abbrev going : (s : ℕ) → s < states G → ℕ → (x : ℕ) × x < states G
-    going s l = walk {G = G} (λ x. x .0) onward (s, l)
-
+    -- On by arrows in their fewest minutes: that comes past every number, so it is a run, and a run starts only where such a
+    -- loop is reached.
     reaches : (s : ℕ) → s < states G → ReachesTimedLoop G s
     reaches s l =
-        let at : (x : ℕ) × x < states G → ℕ = λ x. x .0 in
-        let passes : Passes (paces {G = G} at onward (s, l)) =
-        λ c. past c (λ i. going s l i .0) (paces {G = G} at onward (s, l)) (moves {G = G} at onward (s, l)) l in
-        run-iff dr s l .1 (unroll at onward (s, l) passes)
+        let S = State dr leave in
+        let at : S → ℕ = λ x. x .0 in
+        let on = onward dr leave in
+        let passes : Passes (paces {G = G} at on (s, l)) =
+        λ c. past c (λ i. walk {G = G} at on (s, l) i .0) (paces {G = G} at on (s, l)) (moves {G = G} at on (s, l)) l in
+        run-iff dr s l .1 (unroll at on (s, l) passes)
 
 pub kept-charts : KeptCharts
 kept-charts chart old =

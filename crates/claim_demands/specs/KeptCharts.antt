@@ -1,5 +1,5 @@
 -- What paper 4 kept: every chart that was accepted before it is accepted now, with the same marks. What a chart had to be and
--- what a rule meant before stands here for this one claim. The quoted sentences are of 01.
+-- what a rule meant before stand here for this one claim. The quoted sentences are of 01.
 use mathlib.Core.Path.{_≡_}
 use mathlib.Core.Logic.{_↔_, _⊎_}
 use mathlib.Core.Bool.{Bool}

@@ -59,7 +59,7 @@ charts =
     -- arrow 0 to 0, slot 0 to 0; its slot before paper 4, 0 to 3, is not refused
     refused 19 0 (chart 1 1 (wordBytes 0) (arrow 0 0 0 0)) ∷
     refused 0 0 (chart 1 1 (wordBytes 0) (arrow 0 0 0 3)) ∷
-    -- "handing a job back and forth takes 0 to 3 minutes each way": not refused
+    -- "Handing a job back and forth takes 0 to 3 minutes each way": not refused
     refused 0 0 (chart 2 2 (wordBytes 0 ++ wordBytes 0) (arrow 0 1 0 3 ++ arrow 1 0 0 3)) ∷
     -- the arrow with most above 0 is on no loop
     refused 19 0 (chart 2 2 (wordBytes 0 ++ wordBytes 0) (arrow 0 1 1 1 ++ arrow 1 1 0 0)) ∷

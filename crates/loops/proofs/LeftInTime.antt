@@ -1,4 +1,5 @@
--- Where every state is left by an arrow with most above 0, every state has a run: a minute or more in each step.
+-- Where every state is left by an arrow with most above 0, every state has a run, a minute or more in each step; so each
+-- reaches a loop on which time can pass, and row 19 is not met.
 use mathlib.Core.Path.{_≡_, refl, sym, subst, _∙_}
 use mathlib.Core.Bool.{false}
 use mathlib.Core.List.{List, [], _∷_, List·Memᴰ}
@@ -12,7 +13,7 @@ use Rattle.tctl.specs.Run.{Step}
 use Rattle.tctl.specs.Accepted.{AboveZero, ReachesTimedLoop}
 use Rattle.tctl.proofs.Drawn.{Drawn}
 use Rattle.tctl.proofs.Path.{step-cast}
-use Rattle.tctl.proofs.Run.{paces, unroll}
+use Rattle.tctl.proofs.Run.{paces, unroll, State, onward}
 use Rattle.tctl.proofs.Lively.{timed-step}
 use Rattle.model.proofs.TicksAhead.{run-iff}
 use Rattle.model.specs.Engine.{num}
@@ -32,33 +33,30 @@ use Rattle.loops.specs.Refusal.{loopRow}
 use Rattle.loops.specs.LeftInTime.{LeftInTime, TimedUnlessZero}
 
 module _ {G : Chart} (dr : Drawn G) (left : (s : ℕ) → s < states G → LeftInTime G s) where
-  -- a state of the chart, and on from it in a minute or more
-  abbrev State : Type 0
-  State = (s : ℕ) × s < states G
-
-  abbrev onward : (x : State) → (y : State) × (d : ℕ) × Step G (x .0) d (y .0)
-  onward x =
-      let w = left (x .0) (x .1) in
+  leave : (s : ℕ) → s < states G → (t : ℕ) × (d : ℕ) × Step G s d t
+  leave s l =
+      let w = left s l in
       let step = timed-step dr (w .arrow) (w .drawn) (w .timed) in
-      ((w .arrow .end, dr .ends (w .arrow) (w .drawn)), step .0, step-cast (sym (w .leaves)) refl (step .2))
+      (w .arrow .end, step .0, step-cast (sym (w .leaves)) refl (step .2))
+
+  abbrev minutes : State dr leave → ℕ → ℕ
+  minutes x = paces {G = G} {S = State dr leave} (λ x. x .0) (onward dr leave) x
 
   -- i steps take i minutes at least
-  lasting : (x : State) (i : ℕ) → i ≤ sum (paces {G = G} {S = State} (λ x. x .0) onward x) i
-  unfolding sum
+  lasting : (x : State dr leave) (i : ℕ) → i ≤ sum (minutes x) i
+  unfolding sum leave
   lasting x zero = omega arith
   lasting x (suc i) =
       let w = left (x .0) (x .1) in
-      omega (
-        arith,
-        lasting (onward x .0) i,
-        timed-step dr (w .arrow) (w .drawn) (w .timed) .1,
-        sum-suc (paces {G = G} {S = State} (λ x. x .0) onward x) i,
-      )
+      let long = timed-step dr (w .arrow) (w .drawn) (w .timed) .1 in
+      omega (arith, lasting (onward dr leave x .0) i, long, sum-suc (minutes x) i)
 
-  pub left-reaches : (s : ℕ) → s < states G → ReachesTimedLoop G s
+  -- so a run starts at each state, which then reaches a loop on which time can pass
+  left-reaches : (s : ℕ) → s < states G → ReachesTimedLoop G s
   left-reaches s l =
       run-iff dr s l .1
-      (unroll {S = State} (λ x. x .0) onward (s, l) (λ c. (suc c, omega (arith, lasting (s, l) (suc c)))))
+      (unroll {S = State dr leave} (λ x. x .0) (onward dr leave) (s, l)
+      (λ c. (suc c, omega (arith, lasting (s, l) (suc c)))))
 
 -- ── Numbers that say so ──
 

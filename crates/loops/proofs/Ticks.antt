@@ -65,10 +65,10 @@ module _ {chart : List ℕ} {n m : ℕ} (p : Passed chart n m)
       (has-states p) (ticks-ahead-iff (drawn p) s) low in
       subst (λ v. (n < v) ↔ ReachesTimedLoop (chartOf chart) s) (sym e) i
 
-  pub reaching : (s : ℕ) → s < n → n < valueOf (num ns s) → noTimedLoop (chartOf chart) s ≡ false
+  reaching : (s : ℕ) → s < n → n < valueOf (num ns s) → noTimedLoop (chartOf chart) s ≡ false
   reaching s low h = no-timed-loop-iff (drawn p) s .1 (above-iff s low .0 h)
 
-  pub stranded : (s : ℕ) → s < n → valueOf (num ns s) ≤ n → noTimedLoop (chartOf chart) s ≡ true
+  stranded : (s : ℕ) → s < n → valueOf (num ns s) ≤ n → noTimedLoop (chartOf chart) s ≡ true
   stranded s low h =
       let denied : noTimedLoop (chartOf chart) s ≡ false → ⊥ =
       λ e. let z = above-iff s low .1 (no-timed-loop-iff (drawn p) s .0 e) in omega arith in

@@ -1,5 +1,5 @@
 -- For every bound the untils by minutes are the first engine's: the E-untils on every drawn chart, and the A-untils
--- where every state has a run whose moments pass every number.
+-- where every state has a run.
 use mathlib.Core.Path.{_≡_, sym, _∙_}
 use mathlib.Core.Logic.{_↔_, Iff·trans}
 use mathlib.Core.Bool.{Bool, true, false, false≢true}
@@ -14,7 +14,7 @@ use Rattle.tctl.specs.Chart.{Chart, states}
 use Rattle.tctl.specs.Formula.{Bound, Meets}
 use Rattle.tctl.specs.Path.{Path, minutes}
 use Rattle.tctl.proofs.Drawn.{Drawn}
-use Rattle.tctl.proofs.Passes.{Lively}
+use Rattle.tctl.proofs.Run.{Lively}
 use Rattle.tctl.proofs.Until.{until-weaken}
 use Rattle.tctl.proofs.Unmet.{Unmet, unmet-weaken}
 use Rattle.model.specs.Decide.{ask, someRow, allRow}

@@ -1,5 +1,5 @@
--- To fail an until: where a state makes it at the moment k, some run whose moments pass every number does not meet the
--- until; where it does not, each such run does, whatever the bound.
+-- To fail an until: where a state makes it at the moment k, some run does not meet the until; where it does
+-- not, each run does, whatever the bound.
 use mathlib.Core.Path.{_≡_, sym, subst}
 use mathlib.Core.Logic.{_⊎_, inl, inr, ⊎-elim}
 use mathlib.Core.Bool.{Bool, true, false, not, _||_, false≢true}
@@ -12,8 +12,7 @@ use Rattle.tctl.specs.Chart.{Chart, states}
 use Rattle.tctl.specs.Run.{Run, moment}
 use Rattle.tctl.specs.Formula.{Bound, Meets}
 use Rattle.tctl.proofs.Drawn.{Drawn, step-below}
-use Rattle.tctl.proofs.Run.{first, after, moment-after}
-use Rattle.tctl.proofs.Passes.{Lively}
+use Rattle.tctl.proofs.Run.{Lively, first, after, moment-after}
 use Rattle.tctl.proofs.Until.{Until, now, later}
 use Rattle.tctl.proofs.Unmet.{Unmet, unmet-here, unmet-ahead}
 use Rattle.minutes.specs.Makes.{Task, goesAt, Makes, stops, goes}

@@ -1,5 +1,5 @@
 -- To fail an until with no bound: after n waits the answer is yes just where a path of ticks is late, and so where some
--- run whose moments pass every number does not meet the until.
+-- run does not meet the until.
 use mathlib.Core.Path.{_≡_, refl, sym, _∙_}
 use mathlib.Core.Logic.{_↔_, ⊎-elim}
 use mathlib.Core.List.{map}
@@ -15,7 +15,7 @@ use Rattle.tctl.specs.Chart.{Chart, states}
 use Rattle.tctl.specs.Formula.{atLeast}
 use Rattle.tctl.specs.Path.{Path, stop, step, minutes, Any}
 use Rattle.tctl.proofs.Drawn.{Drawn, step-below}
-use Rattle.tctl.proofs.Passes.{Lively}
+use Rattle.tctl.proofs.Run.{Lively}
 use Rattle.tctl.proofs.Unmet.{Unmet}
 use Rattle.tctl.proofs.AllAtMost.{Waits, Fails, Late, fails, lasts, late-ahead}
 use Rattle.model.specs.Engine.{num}

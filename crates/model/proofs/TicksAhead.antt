@@ -29,7 +29,7 @@ above-zero (upTo (suc m)) d h w = omega arith
 above-zero noEnd d h w = tt
 
 -- an arrow with most above 0 on a path from u to v
-record Passed (G : Chart) (v u : ℕ) : Type 0 where
+record TimedOn (G : Chart) (v u : ℕ) : Type 0 where
   arrow : Arrow
   drawn : List·Memᴰ arrow (G .arrows)
   timed : AboveZero (arrow .most)
@@ -42,14 +42,14 @@ module _ {G : Chart} (dr : Drawn G) where
   minuted p = weaken (λ x g. tt) (λ x e. e) (untick-path dr p .0)
 
   -- By induction on the path: its first step takes a tick, or what follows does.
-  passed : {go : ℕ → Type 0} {u v : ℕ} (p : Path (ticks G) go (To v) u) → 1 ≤ minutes p → Passed G v u
-  passed (stop e) h = absurd (let z : ⊥ = omega arith in z)
-  passed {v = v} (step {s} {d} {t} g x p) h = by-cases (decLe 1 d) now (λ k. later (passed p (omega arith)))
+  timed-on : {go : ℕ → Type 0} {u v : ℕ} (p : Path (ticks G) go (To v) u) → 1 ≤ minutes p → TimedOn G v u
+  timed-on (stop e) h = absurd (let z : ⊥ = omega arith in z)
+  timed-on {v = v} (step {s} {d} {t} g x p) h = by-cases (decLe 1 d) now (λ k. later (timed-on p (omega arith)))
     where
       w : (a : Arrow) × List·Memᴰ a (G .arrows) × (ticking a ≡ x .arrow)
       w = Memᴰ·of-map ticking (G .arrows) (x .drawn)
 
-      now : 1 ≤ d → Passed G v s
+      now : 1 ≤ d → TimedOn G v s
       now k =
           let a = w .0 in
           record {
@@ -60,7 +60,7 @@ module _ {G : Chart} (dr : Drawn G) where
             behind = cast (ap (λ b. b .end) (w .2) ∙ x .enters) (minuted p);
           }
 
-      later : Passed G v t → Passed G v s
+      later : TimedOn G v t → TimedOn G v s
       later y =
           record {
             arrow = y .arrow;
@@ -71,13 +71,13 @@ module _ {G : Chart} (dr : Drawn G) where
           }
 
   -- A path of n ticks goes round a loop in which one passes, by an arrow with most above 0.
-  pub round-timed :
+  round-timed :
       {go end : ℕ → Type 0} {s : ℕ} → s < states G → (p : Path (ticks G) go end s) → states G ≤ minutes p →
       ReachesTimedLoop G s
   round-timed l p h =
       let slow = ticks-lasso dr l p h in
       let lasso = slow .0 in
-      let y = passed (lasso .loop) (slow .1) in
+      let y = timed-on (lasso .loop) (slow .1) in
       let knot = lasso .knot in
       record {
         arrow = y .arrow;
@@ -94,10 +94,13 @@ module _ {G : Chart} (dr : Drawn G) where
       let p = prefix {go = Any} {end = Any} (ticked r) (i .0) tt (λ j h. tt) in
       (p .0, omega (arith, i .1, p .2))
 
-  -- a run counts just where a loop on which time can pass is reached
+  -- A run starts just where a loop on which time can pass is reached: it goes round the loop for ever; and the first steps
+  -- of a run, as far as n ticks, go round one.
   pub run-iff : (s : ℕ) → s < states G → ReachesTimedLoop G s ↔ Run G s
   run-iff s l = (timed-run dr, λ r. let p = run-ticks r in round-timed l (p .0) (p .1))
 
+  -- The number is above n just if a path has n ticks. Such a path goes round a loop in which one passes; and where such a
+  -- loop is reached, a run has n ticks in its first steps.
   pub ticks-ahead-iff :
       (s : ℕ) → s < states G → (states G < num (ticksAhead (G .arrows) (states G)) s) ↔ ReachesTimedLoop G s
   unfolding ticksAhead

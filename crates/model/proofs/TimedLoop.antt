@@ -5,7 +5,6 @@ use mathlib.Core.List.{List, [], _∷_}
 use mathlib.Core.List.{List·Memᴰ, List·Memᴰ·head, List·Memᴰ·tail, List·Memᴰ·cases-cons, List·Memᴰ·not-nil}
 use mathlib.Core.Bool.{Bool, true, false, not}
 use Prim.Native.Nat.{ℕ}
-use native.Mathlib.Omega.{arith}
 use borrow.Author.Tests.{ltb-true, lt-ltb, not-false}
 use Rattle.base.proofs.Truth.{true-or-false, not-iff, both-iff, either-iff}
 use Rattle.base.proofs.Compare.{eqb-iff}
@@ -14,7 +13,7 @@ use Rattle.tctl.specs.Chart.{Chart, Arrow, Most, upTo, noEnd, Within}
 use Rattle.tctl.specs.Run.{Step}
 use Rattle.tctl.specs.Path.{Path, stop, step, Any, To}
 use Rattle.tctl.specs.Accepted.{AboveZero, ReachesTimedLoop}
-use Rattle.tctl.proofs.Drawn.{Drawn}
+use Rattle.tctl.proofs.Drawn.{Drawn, at-fewest}
 use Rattle.tctl.proofs.Path.{cast, append}
 use Rattle.model.specs.TimedLoop.{leads, aboveZero, onTimedLoop, noTimedLoop}
 
@@ -49,22 +48,10 @@ module _ (labels : List ℕ) where
   more (stop e) = stop e
   more (step g x p) = step g (again x (List·Memᴰ·tail (x .drawn))) (more p)
 
-  -- the arrow a, in its fewest minutes
-  by-first : (a : Arrow) (l : List Arrow) → Within (a .fewest) (a .most) → Step (chart (a ∷ l)) (a .start) (a .fewest) (a .end)
-  by-first a l w =
-      record {
-        arrow = a;
-        drawn = List·Memᴰ·head refl;
-        leaves = refl;
-        enters = refl;
-        least = omega arith;
-        greatest = w;
-      }
-
   join :
       (a : Arrow) {l : List Arrow} {s t : ℕ} → Within (a .fewest) (a .most) → Way l s t ⊎ Through a l s t → Way (a ∷ l) s t
   join a w (inl p) = more p
-  join a {l} w (inr (p, q)) = append (a .start) (more p) (step tt (by-first a l w) (more q))
+  join a w (inr (p, q)) = append (a .start) (more p) (step tt (at-fewest a (List·Memᴰ·head refl) w) (more q))
 
   -- ── Ways taken apart ──
 
@@ -97,9 +84,9 @@ module _ (labels : List ℕ) where
       let through = both-iff (rest s (a .start)) (rest (a .end) t) in
       Iff·trans (either-iff (rest s t) through) (join a (w a (List·Memᴰ·head refl)), split)
 
-above-iff : (m : Most) → (aboveZero m ≡ true) ↔ AboveZero m
-above-iff (upTo m) = (ltb-true 0 m, lt-ltb 0 m)
-above-iff noEnd = (λ e. tt, λ h. refl)
+above-zero-iff : (m : Most) → (aboveZero m ≡ true) ↔ AboveZero m
+above-zero-iff (upTo m) = (ltb-true 0 m, lt-ltb 0 m)
+above-zero-iff noEnd = (λ e. tt, λ h. refl)
 
 module _ {G : Chart} (dr : Drawn G) (s : ℕ) where
   -- the arrow's part of what the test asks
@@ -109,8 +96,9 @@ module _ {G : Chart} (dr : Drawn G) (s : ℕ) where
       ((AboveZero (a .most) × Path G Any (To (a .start)) s) × Path G Any (To (a .start)) (a .end))
   on-iff a =
       let way = leads-iff (G .labels) (G .arrows) (dr .slots) in
-      both-iff (both-iff (above-iff (a .most)) (way s (a .start))) (way (a .end) (a .start))
+      both-iff (both-iff (above-zero-iff (a .most)) (way s (a .start))) (way (a .end) (a .start))
 
+  -- The test says no of s just if it says no of some arrow: that one has most above 0, is reached, and is on a loop.
   pub no-timed-loop-iff : (noTimedLoop G s ≡ false) ↔ ReachesTimedLoop G s
   no-timed-loop-iff = (down, up)
     where

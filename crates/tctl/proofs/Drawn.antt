@@ -16,6 +16,13 @@ pub record Drawn (G : Chart) : Type 0 where
 pub accepted-drawn : {G : Chart} → Accepted G → Drawn G
 accepted-drawn acc = record { starts = acc .starts; ends = acc .ends; slots = acc .slots }
 
+-- the arrow, whose slot is not empty, taken in its fewest minutes
+pub at-fewest :
+    {G : Chart} (a : Arrow) → List·Memᴰ a (G .arrows) → Within (a .fewest) (a .most) →
+    Step G (a .start) (a .fewest) (a .end)
+at-fewest a m w =
+    record { arrow = a; drawn = m; leaves = refl; enters = refl; least = omega arith; greatest = w }
+
 module _ {G : Chart} (dr : Drawn G) where
   -- a step ends in a state of the chart
   pub step-below : {s d t : ℕ} → Step G s d t → t < states G
@@ -23,5 +30,4 @@ module _ {G : Chart} (dr : Drawn G) where
 
   -- the arrow, taken in its fewest minutes
   pub quickest : (a : Arrow) → List·Memᴰ a (G .arrows) → Step G (a .start) (a .fewest) (a .end)
-  quickest a m =
-      record { arrow = a; drawn = m; leaves = refl; enters = refl; least = omega arith; greatest = dr .slots a m }
+  quickest a m = at-fewest a m (dr .slots a m)

@@ -8,7 +8,7 @@ use Rattle.tctl.specs.Run.{Run, Step}
 use Rattle.tctl.specs.Path.{Path, step, Any, To}
 use Rattle.tctl.specs.Accepted.{AboveZero, ReachesTimedLoop, Accepted}
 use Rattle.tctl.proofs.Drawn.{Drawn, accepted-drawn}
-use Rattle.tctl.proofs.Passes.{Lively}
+use Rattle.tctl.proofs.Run.{Lively}
 use Rattle.tctl.proofs.Forever.{forever}
 
 -- a duration of the slot that is a minute or more

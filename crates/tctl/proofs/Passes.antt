@@ -2,13 +2,8 @@
 use Prim.Native.Nat.{ℕ, zero, suc, _+_, _<_}
 use native.Mathlib.Omega.{arith}
 use Rattle.base.specs.Sum.{sum}
-use Rattle.tctl.specs.Chart.{Chart, states}
-use Rattle.tctl.specs.Run.{Passes, Run}
+use Rattle.tctl.specs.Run.{Passes}
 use Rattle.base.proofs.Sum.{sum-suc}
-
--- every state has a run
-abbrev pub Lively : Chart → Type 0
-Lively G = (s : ℕ) → s < states G → Run G s
 
 -- a sequence with a in front
 abbrev pub front : ℕ → (ℕ → ℕ) → ℕ → ℕ

@@ -9,9 +9,13 @@ use Rattle.tctl.specs.Run.{Step, Run, moment}
 use Rattle.tctl.specs.Path.{Path, stop, step, steps, minutes}
 use Rattle.tctl.proofs.Path.{cast, steps-cast, minutes-cast}
 
+-- an unending sequence of steps
+abbrev pub Steps : Chart → (ℕ → ℕ) → (ℕ → ℕ) → Type 0
+Steps G state duration = (i : ℕ) → Step G (state i) (duration i) (state (suc i))
+
 module _ {G : Chart} {go end : ℕ → Type 0} where
   pub first-steps :
-      (state duration : ℕ → ℕ) → ((i : ℕ) → Step G (state i) (duration i) (state (suc i))) → (k : ℕ) →
+      (state duration : ℕ → ℕ) → Steps G state duration → (k : ℕ) →
       end (state k) → ((j : ℕ) → j < k → go (state j)) →
       (p : Path G go end (state 0)) × (steps p ≡ k) × (minutes p ≡ sum duration k)
   unfolding sum

@@ -1,4 +1,4 @@
--- Runs: a step and then a run, a run after its first step, a run by a rule for its next step, and their moments.
+-- Runs: who has one, a step and then a run, a run after its first step, a run by a rule for its next step, and their moments.
 use mathlib.Core.Path.{_≡_, refl, sym, subst}
 use Prim.Native.Nat.{ℕ, zero, suc, _+_, _<_}
 use Rattle.base.proofs.Sum.{sum-suc}
@@ -7,6 +7,10 @@ use Rattle.tctl.specs.Run.{Passes, Run, Step, moment}
 use Rattle.tctl.proofs.Drawn.{Drawn, step-below}
 use Rattle.tctl.proofs.Path.{step-cast}
 use Rattle.tctl.proofs.Passes.{front, passes-front, passes-rest}
+
+-- every state has a run
+abbrev pub Lively : Chart → Type 0
+Lively G = (s : ℕ) → s < states G → Run G s
 
 module _ {G : Chart} where
   -- ── A step and then a run ──
@@ -65,3 +69,14 @@ module _ {G : Chart} {S : Type 0} (at : S → ℕ) (next : (x : S) → (y : S) �
 
   abbrev pub unroll : (x : S) → Passes (paces x) → Run G (at x)
   unroll x f = record { state = λ i. at (walk x i); duration = paces x; starts = refl; moves = moves x; passes = f }
+
+-- ── A rule that knows a step from every state of the chart ──
+
+module _ {G : Chart} (dr : Drawn G) (leave : (s : ℕ) → s < states G → (t : ℕ) × (d : ℕ) × Step G s d t) where
+  abbrev pub State : Type 0
+  State = (s : ℕ) × s < states G
+
+  abbrev pub onward : (x : State) → (y : State) × (d : ℕ) × Step G (x .0) d (y .0)
+  onward x =
+      let w = leave (x .0) (x .1) in
+      ((w .0, step-below dr (w .2)), w .1, w .2)

@@ -9,8 +9,7 @@ use Rattle.tctl.specs.Formula.{Bound, Meets}
 use Rattle.tctl.specs.Holds.{Met}
 use Rattle.tctl.proofs.Drawn.{Drawn, step-below}
 use Rattle.tctl.specs.Path.{Path, stop, step, minutes}
-use Rattle.tctl.proofs.Run.{ahead}
-use Rattle.tctl.proofs.Passes.{Lively}
+use Rattle.tctl.proofs.Run.{Lively, ahead}
 use Rattle.tctl.proofs.Prefix.{prefix}
 use Rattle.tctl.proofs.Until.{Until, now, later, met-iff-until}
 

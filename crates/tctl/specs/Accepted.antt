@@ -11,7 +11,7 @@ abbrev pub AboveZero : Most → Type 0
 AboveZero (upTo m) = 0 < m
 AboveZero noEnd = Unit {0}
 
--- from s "a loop holding an arrow with most above 0 can be reached": a path from s to the arrow's start, and one from its end
+-- from s a "loop holding an arrow with most above 0 can be reached": a path from s to the arrow's start, and one from its end
 -- back there. A path may have no step, so a state on the loop reaches it, and an arrow from a state to itself is a loop.
 pub record ReachesTimedLoop (G : Chart) (s : ℕ) : Type 0 where
   pub arrow : Arrow

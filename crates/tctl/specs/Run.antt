@@ -18,8 +18,8 @@ pub record Step (G : Chart) (s d t : ℕ) : Type 0 where
 abbrev pub Passes : (ℕ → ℕ) → Type 0
 Passes duration = (c : ℕ) → (i : ℕ) × c < sum duration i
 
--- "A run is unending: at each whole number it has a state": a run from s. "A run counts only if its moments pass every
--- number" (02): only these are called runs here.
+-- "A run is unending: at each whole number it has a state": a run from s. Since "a run counts only if its
+-- moments pass every number" (02), only these are called runs here.
 pub record Run (G : Chart) (s : ℕ) : Type 0 where
   pub state : ℕ → ℕ
   pub duration : ℕ → ℕ

@@ -37,10 +37,10 @@ pub rows-inside :
 rows-inside n low e h = (e, omega (arith, row-below n (low .left)), omega (arith, row-below n (low .right)))
 
 -- numbers with sides: what the engine asks for
-pub lent-row :
+pub lent-prepared :
     {way : Way} {chart : List ℕ} {n m t : ℕ} {marks numbers : List ℕ} → Lent chart n m t marks numbers →
     Able way numbers → Prepared way chart n m numbers
-lent-row l able =
+lent-prepared l able =
     record {
       given = record { passed = l .passed; size = l .size; fits = able .fits };
       go = able .go;

@@ -3,8 +3,8 @@
 //! E: Q and bound met, or P and some next. A: Q and bound met, or P and every next.
 //! A step never lowers the minute, so the minutes are finished one by one from c + 1 down.
 //!
-//! "A run counts only if its moments pass every number." E is a least fixpoint: row 19 lets every way go on to a run that
-//! counts. For A see `every_run`.
+//! "a run counts only if its moments pass every number": E is a least fixpoint, since row 19 lets every way go on to a run
+//! that counts. For A see `every_run`.
 
 use crate::chart::{Arrow, NO_END};
 use crate::leaving::Leaving;

@@ -1,7 +1,7 @@
 -- Invariant: a state whose number is not 0 is left by an arrow with most above 0.
-use mathlib.Core.Path.{_≡_, refl, sym, ap, _∙_}
+use mathlib.Core.Path.{_≡_, sym, _∙_}
 use mathlib.Core.Logic.{⊎-elim}
-use Prim.Native.Nat.{ℕ, _≤_, _-_}
+use Prim.Native.Nat.{_≤_, _-_}
 use native.Mathlib.Omega.{arith}
 use denote.Ref.{now}
 use lib.ListN.{length, length-set}
@@ -36,7 +36,8 @@ read c = c .before
 
 loop-holds : tie.Need-loop-holds Inv-loop μ-loop
 loop-holds c =
-    (omega arith, cleared c .clear .kept .0 ∙ call (cleared c .before) .pre .1, timed-none (cleared c .clear .last .0) (cleared c .clear .ensures))
+    let zeros = cleared c .clear in
+    (omega arith, zeros .kept .0 ∙ call (cleared c .before) .pre .1, timed-none (zeros .last .0) (zeros .ensures))
 
 arrow-requires : tie.Need-arrow-requires Inv-loop μ-loop
 arrow-requires c κs =
@@ -68,4 +69,5 @@ pub hint-timed-spec : {M : Type 1} → statement M
 hint-timed-spec =
     tie.close
     (tie.spec Inv-loop μ-loop (λ c κs. tt) loop-holds arrow-requires hinted-requires (λ c. omega arith) (λ c. omega arith)
-    (λ c. omega arith) (λ c. omega arith) loop-again (λ c. c .before .loop .inv .1 ∙ sym (start (c .before) .pre .1)) (λ c. c .before .loop .inv .2))
+    (λ c. omega arith) (λ c. omega arith) loop-again (λ c. c .before .loop .inv .1 ∙ sym (start (c .before) .pre .1))
+    (λ c. c .before .loop .inv .2))

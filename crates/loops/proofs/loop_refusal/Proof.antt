@@ -1,6 +1,5 @@
 -- Where no number is 0 every state is left by an arrow with most above 0; else ticks are counted.
 use mathlib.Core.Path.{_∙_}
-use native.Mathlib.Omega.{arith}
 use borrow.Author.Needs.{needs}
 use Rattle.loops.proofs.LeftInTime.{left-unmet}
 use Rattle.loops.proofs.loop_refusal.Statement.{statement}

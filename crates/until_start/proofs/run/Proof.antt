@@ -2,7 +2,7 @@
 use borrow.Author.Needs.{needs}
 use denote.Ref.{now}
 use Rattle.operands.proofs.Rows.{besides-put}
-use Rattle.until_start.proofs.Lent.{lent-row}
+use Rattle.until_start.proofs.Lent.{lent-prepared}
 use Rattle.until_start.proofs.run.Statement.{statement}
 use Rattle.until_start.proofs.run.Tie as tie
 
@@ -14,7 +14,7 @@ abbrev ran : tie.After-slice-known4 → tie.After-settle
 ran c = c .before .before .before .before
 
 settle-requires : tie.Need-settle-requires
-settle-requires c κs = lent-row (start c .pre .0) (start c .pre .1)
+settle-requires c κs = lent-prepared (start c .pre .0) (start c .pre .1)
 
 returns : tie.Need-returns
 returns c =
