@@ -71,8 +71,8 @@ fn begin(numbers: &mut [u32])
     }
 }
 
-// The number of each state becomes 1 and the most ticks of a path from it, up to n + 1; its hint is kept. The
-// engine walks a few states at a time: marks are not written before row 19 is decided, and there is no other room.
+// The number of each state becomes 1 and the most ticks of a path from it, up to n + 1. The engine walks a few states at a
+// time: marks are not written before row 19 is decided, and there is no other room.
 fn count_ticks(chart: &[u8], n: usize, m: usize, numbers: &mut [u32])
     requires { ⌜ Passed (now chart) n m × (length (now numbers) ≡ n) ⌝ }
     ensures { λ _. ⌜ values (now (numbers .exit)) ≡ ticksAhead (chartOf (now (chart .entry)) .arrows) n ⌝ }
