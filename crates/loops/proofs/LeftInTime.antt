@@ -1,11 +1,13 @@
 -- Where every state is left by an arrow with most above 0, every state has a run, a minute or more in each step; so each
 -- reaches a loop on which time can pass, and row 19 is not met.
-use mathlib.Core.Path.{_≡_, refl, sym, subst, _∙_}
+use mathlib.Core.Path.{_≡_, refl, sym, subst, ap, _∙_}
 use mathlib.Core.Bool.{false}
 use mathlib.Core.List.{List, [], _∷_, List·Memᴰ}
-use Prim.Native.Nat.{ℕ, zero, suc, _≤_, _<_}
+use Prim.Native.Nat.{ℕ, zero, suc, _+_, _≤_, _<_}
 use native.Mathlib.Omega.{arith}
 use lib.ListN.{length, set}
+use lib.Seq.{getD-set-same}
+use borrow.Author.Count.{below-none, below-more}
 use Rattle.base.specs.Sum.{sum}
 use Rattle.base.proofs.Sum.{sum-suc}
 use Rattle.tctl.specs.Chart.{Chart, states}
@@ -23,10 +25,9 @@ use Rattle.model.proofs.TimedLoop.{no-timed-loop-iff}
 use Rattle.outcome.specs.declared.Outcome.{Outcome}
 use Rattle.outcome.specs.Refusal.{success, first}
 use Rattle.outcome.proofs.Search.{search-ended}
-use Rattle.chart.specs.declared.ArrowWords.{ArrowWords}
-use Rattle.chart.specs.Bytes.{stateCount, arrowCount, arrowWords, arrowOf, chartOf}
+use Rattle.chart.specs.Bytes.{stateCount, arrowCount, arrowWords, mostOf, arrowOf, chartOf}
 use Rattle.chart.specs.Shape.{Passed}
-use Rattle.chart.proofs.Chart.{arrow-mem}
+use Rattle.chart.proofs.Chart.{arrow-mem, arrow-of}
 use Rattle.chart.proofs.Most.{most-elim}
 use Rattle.chart.proofs.Reading.{has-states, drawn}
 use Rattle.loops.specs.Refusal.{loopRow}
@@ -60,23 +61,59 @@ module _ {G : Chart} (dr : Drawn G) (left : (s : ℕ) → s < states G → LeftI
 
 -- ── Numbers that say so ──
 
-pub timed-none : {G : Chart} (ns : List ℕ) → ((s : ℕ) → num ns s ≡ 0) → TimedUnlessZero G ns
-timed-none ns zeros s h = absurd (h (zeros s))
+-- the arrows before i are noted: only the starts of arrows with most above 0 have a number other than 0, and all of theirs do
+pub record Noted (chart : List ℕ) (i : ℕ) (ns : List ℕ) : Type 0 where
+  pub only : (s : ℕ) → ¬ (num ns s ≡ 0) → LeftInTime (chartOf chart) s
+  pub all : (j : ℕ) → j < i → ¬ (arrowWords chart j .most ≡ 0) → ¬ (num ns (arrowWords chart j .start) ≡ 0)
 
--- the number of an arrow's start, if its most is not 0, becomes anything
-pub timed-more :
-    (chart ns : List ℕ) (v : ℕ) → TimedUnlessZero (chartOf chart) ns → (w : ArrowWords) (i : ℕ) → i < arrowCount chart →
-    w ≡ arrowWords chart i → ¬ (w .most ≡ 0) → TimedUnlessZero (chartOf chart) (set ns (w .start) v)
-timed-more chart ns v inv w i l e h =
-    set-elim (λ s x. ¬ (x ≡ 0) → LeftInTime (chartOf chart) s) ns (w .start) v
-    (λ z.
-    record {
-      arrow = arrowOf w;
-      drawn = subst (λ x. List·Memᴰ (arrowOf x) (chartOf chart .arrows)) (sym e) (arrow-mem chart i l);
-      leaves = refl;
-      timed = most-elim AboveZero tt (λ k. omega arith) (w .most) h;
-    })
-    inv
+module _ (chart ns : List ℕ) where
+  pub noted-none : ((s : ℕ) → num ns s ≡ 0) → Noted chart 0 ns
+  noted-none zeros = record { only = λ s h. absurd (h (zeros s)); all = below-none _ }
+
+  -- arrow i has most 0
+  pub noted-still : {i : ℕ} → Noted chart i ns → arrowWords chart i .most ≡ 0 → Noted chart (i + 1) ns
+  noted-still {i} w e =
+      record {
+        only = w .only;
+        all =
+            below-more (λ j. ¬ (arrowWords chart j .most ≡ 0) → ¬ (num ns (arrowWords chart j .start) ≡ 0)) i (w .all)
+            (λ h. absurd (h e));
+      }
+
+  -- arrow i has most above 0, and the number of its start becomes v
+  pub noted-more :
+      {i v : ℕ} → Noted chart i ns → i < arrowCount chart → arrowWords chart i .start < length ns →
+      ¬ (arrowWords chart i .most ≡ 0) → ¬ (v ≡ 0) → Noted chart (i + 1) (set ns (arrowWords chart i .start) v)
+  noted-more {i} {v} w l inside h some =
+      let words = arrowWords chart i in
+      let new = set ns (words .start) v in
+      let one : LeftInTime (chartOf chart) (words .start) =
+      record {
+        arrow = arrowOf words;
+        drawn = arrow-mem chart i l;
+        leaves = refl;
+        timed = most-elim AboveZero tt (λ k. omega arith) (words .most) h;
+      } in
+      let kept = set-elim (λ s x. ¬ (num ns s ≡ 0) → ¬ (x ≡ 0)) ns (words .start) v (λ z. some) (λ s z. z) in
+      let here : ¬ (num new (words .start) ≡ 0) = λ e. some (sym (getD-set-same ns (words .start) v 0 inside) ∙ e) in
+      record {
+        only = set-elim (λ s x. ¬ (x ≡ 0) → LeftInTime (chartOf chart) s) ns (words .start) v (λ z. one) (w .only);
+        all =
+            below-more (λ j. ¬ (arrowWords chart j .most ≡ 0) → ¬ (num new (arrowWords chart j .start) ≡ 0)) i
+            (λ j k z. kept (arrowWords chart j .start) (w .all j k z)) (λ z. here);
+      }
+
+  -- an arrow of the chart is one of those noted, and if its most is above 0 its word is not 0
+  pub noted-timed : Noted chart (arrowCount chart) ns → TimedUnlessZero (chartOf chart) ns
+  noted-timed w s = (w .only s, back)
+    where
+      back : LeftInTime (chartOf chart) s → ¬ (num ns s ≡ 0)
+      back x =
+          let j = arrow-of chart (x .arrow) (x .drawn) in
+          let starts = sym (ap (λ a. a .start) (j .2)) ∙ x .leaves in
+          let above = subst (λ a. AboveZero (a .most)) (j .2) (x .timed) in
+          subst (λ u. ¬ (num ns u ≡ 0)) starts
+          (w .all (j .0) (j .1) (λ e. omega (arith, subst (λ k. AboveZero (mostOf k)) e above)))
 
 -- ── Row 19 where no number is 0 ──
 
@@ -87,7 +124,7 @@ unfolding loopRow
 left-unmet {chart} p ns size timed none e = e ∙ search-ended 19 reaches
   where
     left : (s : ℕ) → s < states (chartOf chart) → LeftInTime (chartOf chart) s
-    left s l = timed s (none s (omega (arith, has-states p)))
+    left s l = timed s .0 (none s (omega (arith, has-states p)))
 
     reaches : (s : ℕ) → s < stateCount chart → noTimedLoop (chartOf chart) s ≡ false
     reaches s l =

@@ -2,8 +2,7 @@
 // numbers, one a state: a path of n ticks goes round such a loop.
 ghost use mathlib.Core.Path.{_≡_};
 ghost use mathlib.Core.List.{[], _∷_};
-ghost use mathlib.Core.Bool.{true};
-ghost use Prim.Native.Nat.{ℕ, _<_};
+ghost use Prim.Native.Nat.{ℕ};
 ghost use lib.ListN.{length};
 ghost use Rattle.outcome.specs.Refusal.{first};
 ghost use Rattle.model.specs.Engine.{num};
@@ -13,7 +12,7 @@ ghost use Rattle.chart.specs.Shape.{Passed};
 ghost use Rattle.hints.specs.Values.{values};
 ghost use Rattle.initial.specs.Filled.{Filled};
 ghost use Rattle.loops.specs.Refusal.{loopRow, acceptedRefusal};
-ghost use Rattle.loops.specs.LeftInTime.{TimedUnlessZero};
+ghost use Rattle.loops.specs.LeftInTime.{TimedUnlessZero, NoneZero};
 use outcome::Outcome;
 use ways::Climb;
 use ways::Way;
@@ -48,7 +47,7 @@ fn hint_timed(chart: &[u8], n: usize, m: usize, numbers: &mut [u32])
 
 // Whether no number is 0.
 fn none_zero(numbers: &[u32]) -> bool
-    ensures { λ r. ⌜ (r ≡ true → (s : ℕ) → s < length (now (numbers .entry)) → ¬ (num (now (numbers .entry)) s ≡ 0)) ⌝ }
+    ensures { λ r. ⌜ NoneZero r (now (numbers .entry)) ⌝ }
 {
     let mut s = 0;
     while s < numbers.len() {

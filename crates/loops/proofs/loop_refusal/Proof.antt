@@ -21,7 +21,7 @@ returns c =
     let hint = hinted none in
     let p = start hint .pre in
     left-unmet (p .0) (hint .hint-timed .last .1 .1 .1 .0) (hint .hint-timed .kept .1 .1 .1 .0 ∙ p .1)
-    (hint .hint-timed .ensures) (none .none-zero .ensures (c .before .if1 .taken)) (c .accepted .ensures)
+    (hint .hint-timed .ensures) (none .none-zero .ensures .0 (c .before .if1 .taken)) (c .accepted .ensures)
 
 pub loop-refusal-spec : {M : Type 1} → statement M
 loop-refusal-spec =
