@@ -40,6 +40,10 @@ extern "C" {
 #define DOILYSTRAND_MAX_COUNT_BOUND 255
 #define DOILYSTRAND_MAX_COUNT_SCRATCH 65536
 
+/* Bytes of the longest text that is read, and of the longest that a rule has: 31 untils of five digits, 32 true, a not. */
+#define DOILYSTRAND_MAX_TEXT 4096
+#define DOILYSTRAND_MAX_RULE_TEXT 532
+
 /* The most of an arrow whose slot has no end. */
 #define DOILYSTRAND_NO_END 65535
 
@@ -121,6 +125,25 @@ doilystrand_written doilystrand_show(const uint8_t *chart, size_t chart_size,
 
 /* Whether a rule is of the all-runs kind, the some-run kind, both or neither. */
 doilystrand_kind_answer doilystrand_kind_of_rule(const uint8_t *rule, size_t rule_size);
+
+/*
+ * Reads a rule typed as text, such as A(true U<=14 L2), and writes its bytes to the front of output: operands before
+ * their node, left first, 7 + 8k bytes for k nodes; DOILYSTRAND_MAX_RULE are always enough. The text is lent as it is,
+ * without an end of line or of string. Refused, in this order, with 65 above DOILYSTRAND_MAX_TEXT bytes; with 64 where
+ * it is no text of the grammar, the place being the first byte that no formula could go on from, or the text's size if
+ * it only stops early; with 65 above 64 nodes; with 66 if output is short. Output is left as lent past the rule, and
+ * wholly on a refusal.
+ */
+doilystrand_written doilystrand_read_rule(const uint8_t *text, size_t text_size,
+                                          uint8_t *output, size_t output_size);
+
+/*
+ * Writes a rule back as the one text of its tree, whatever the order of its nodes, to the front of output; no 0 ends it.
+ * DOILYSTRAND_MAX_RULE_TEXT bytes of output are always enough. Refused with the rule's own 10 to 16, then with 66 if
+ * output is shorter than the text. Output is left as lent past the text, and wholly on a refusal.
+ */
+doilystrand_written doilystrand_write_rule(const uint8_t *rule, size_t rule_size,
+                                           uint8_t *output, size_t output_size);
 
 /* Whether the detail chart is one under the overview chart, by the map. */
 doilystrand_outcome doilystrand_map_check(const uint8_t *detail, size_t detail_size,

@@ -1,10 +1,11 @@
-//! Library and peer compared on every input of check, of show and of count.
+//! Library and peer compared on every input of check, of show, of count, and of read and write.
 
 use crate::count_agreement::count_agreement;
 use crate::hurried_agreement::hurried_agreement;
 use crate::input::Input;
 use crate::report::{GROWING, GROWTH};
 use crate::show::{Lent, Show, POSITIONS};
+use crate::text_agreement::text_agreement;
 use bench::{families, rules, shown, small};
 use std::collections::BTreeMap;
 
@@ -21,7 +22,8 @@ pub fn agreement() -> Result<(), String> {
     println!("Library and peer give equal outcomes, marks and scratch on all {count} inputs.");
     show_agreement()?;
     count_agreement()?;
-    hurried_agreement()
+    hurried_agreement()?;
+    text_agreement()
 }
 
 fn show_agreement() -> Result<(), String> {

@@ -1,13 +1,15 @@
 //! Times the library beside the peer.
 //!
-//! `bench` prints the tables, `bench --count` those of count alone, `bench --quick` the ratios alone; `bench --agree`
-//! only compares the two on all inputs. `bench --one CHART RULE PROGRAM COUNT` only runs one input that often, for
-//! counting instructions; `seed-N` with rule `seed` is a chart of the table of random ones. The program is `library` or
-//! `peer`, which check, or one of these with `-show` or `-count`, or `plain-count`, the plainer of count's two peers.
-//! `bench --files CHART RULE FOLDER` writes one input for the desk program. `bench --names` prints the families,
-//! `bench --small` chart and rule of each small input, `bench --shown` those of each run that is shown,
-//! `bench --counted` those of count whose instructions are counted. `bench --size FILE...` prints the bytes of an archive
-//! or a program, `bench --stack ARCHIVE` the stack of each exported call; the archive is the one that is linked here.
+//! `bench` prints the tables, `bench --count` those of count alone, `bench --text` those of read and write alone,
+//! `bench --quick` the ratios alone; `bench --agree` only compares the two on all inputs. `bench --one CHART RULE
+//! PROGRAM COUNT` only runs one input that often, for counting instructions; `seed-N` with rule `seed` is a chart of
+//! the table of random ones, and an input of read or write stands in place of a chart, with rule `text`. The program is
+//! `library` or `peer`, which check, or one of these with `-show`, `-count` or `-text`, or `plain-count`, the plainer
+//! of count's two peers. `bench --files CHART RULE FOLDER` writes one input for the desk program. `bench --names`
+//! prints the families, `bench --small` chart and rule of each small input, `bench --shown` those of each run that is
+//! shown, `bench --counted` those of count whose instructions are counted, `bench --typed` those of read and write.
+//! `bench --size FILE...` prints the bytes of an archive or a program, `bench --stack ARCHIVE` the stack of each
+//! exported call; the archive is the one that is linked here.
 
 mod agreement;
 mod count;
@@ -18,6 +20,7 @@ mod image;
 mod input;
 mod library_count;
 mod library_show;
+mod library_text;
 mod machine;
 mod measured;
 mod painted;
@@ -25,7 +28,10 @@ mod ratios;
 mod report;
 mod show;
 mod stack;
+mod text_agreement;
+mod text_tables;
 mod timing;
+mod typing;
 mod worst;
 
 use count::Count;
@@ -34,9 +40,12 @@ use show::{Answer, Lent, Show};
 use std::process::ExitCode;
 use std::time::Duration;
 use timing::Plan;
+use typing::Typing;
 
-const USE: &str = "use: bench [--quick | --count | --agree | --names | --small | --shown | --counted]
+const USE: &str =
+    "use: bench [--quick | --count | --text | --agree | --names | --small | --shown | --counted | --typed]
      bench --one CHART RULE library|peer|library-show|peer-show|library-count|plain-count|peer-count COUNT
+     bench --one INPUT text library-text|peer-text COUNT
      bench --size FILE...
      bench --stack ARCHIVE
      bench --files CHART RULE FOLDER";
@@ -61,6 +70,7 @@ fn run(words: &[&str]) -> Result<(), String> {
         [] => report::all(&WHOLE),
         ["--quick"] => ratios::quick(),
         ["--count"] => report::count(&WHOLE),
+        ["--text"] => report::text(&WHOLE),
         ["--agree"] => agreement::agreement(),
         ["--one", chart, rule, program, count] => one(chart, rule, program, count),
         ["--size", files @ ..] => image::sizes(files),
@@ -82,6 +92,10 @@ fn run(words: &[&str]) -> Result<(), String> {
             bench::counted::CHARTS.iter().for_each(|chart| println!("{chart} {}", bench::counted::name("mixed", 63)));
             Ok(())
         }
+        ["--typed"] => {
+            bench::texts::READS.iter().chain(&bench::texts::WRITES).for_each(|name| println!("{name} text"));
+            Ok(())
+        }
         _ => Err(USE.to_string()),
     }
 }
@@ -96,12 +110,14 @@ fn one(chart: &str, rule: &str, program: &str, count: &str) -> Result<(), String
         "library-count" => counted(chart, rule, count, Count::library)?,
         "plain-count" => counted(chart, rule, count, Count::plain)?,
         "peer-count" => counted(chart, rule, count, Count::quick)?,
+        "library-text" => typed(chart, rule, count, Typing::library)?,
+        "peer-text" => typed(chart, rule, count, Typing::peer)?,
         _ => return Err(format!("{program} is no program")),
     };
     if accepted {
         Ok(())
     } else {
-        Err(format!("{program} refuses {chart} with {rule}"))
+        Err(format!("{program} does not answer as it is to: {chart} with {rule}"))
     }
 }
 
@@ -121,6 +137,15 @@ fn shown(chart: &str, rule: &str, count: u32, show: fn(&Show, &mut Lent) -> Answ
 fn counted(chart: &str, rule: &str, times: u32, count: fn(&Count, &mut Buffers) -> (u32, u32)) -> Result<bool, String> {
     let (input, mut lent) = (Count::named(chart, rule)?, count::lent());
     Ok((0..times).all(|_| count(&input, &mut lent) == (0, 0)))
+}
+
+/// Whether all of so many calls answer to the text, or the rule, as they are to.
+fn typed(name: &str, rule: &str, count: u32, turn: fn(&Typing, &mut [u8]) -> typing::Answer) -> Result<bool, String> {
+    if rule != "text" {
+        return Err(format!("{name} goes with text, not with {rule}"));
+    }
+    let ((typing, wanted), mut output) = (Typing::named(name)?, typing::lent(typing::ROOM));
+    Ok((0..count).map(|_| turn(&typing, &mut output)).all(|answer| (answer.number, answer.place) == wanted))
 }
 
 fn files(chart: &str, rule: &str, folder: &str) -> Result<(), String> {

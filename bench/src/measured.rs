@@ -4,7 +4,8 @@ use crate::count::ROWS;
 use crate::input::Buffers;
 use crate::painted::taken;
 use crate::show::POSITIONS;
-use bench::{counted, deep, families, maps, shown};
+use crate::typing::{lent as lent_output, ROOM};
+use bench::{counted, deep, edited, families, maps, shown, texts};
 use std::collections::BTreeMap;
 
 // Only where they stand is asked for here; what they take, `include/doilystrand.h` says.
@@ -13,6 +14,8 @@ extern "C" {
     fn doilystrand_count();
     fn doilystrand_show();
     fn doilystrand_kind_of_rule();
+    fn doilystrand_read_rule();
+    fn doilystrand_write_rule();
     fn doilystrand_map_check();
     fn doilystrand_row();
     fn doilystrand_arrow();
@@ -109,6 +112,37 @@ fn map_checks(most: &mut Most) -> Result<(), String> {
     Ok(())
 }
 
+/// The texts that are timed, and those of drawn rules with edits, so that reading ends in every way.
+fn reads(most: &mut Most) -> Result<(), String> {
+    let (name, mut output) = ("doilystrand_read_rule", lent_output(ROOM));
+    let mut read_rule =
+        |text: &[u8], room: usize| call(most, name, doilystrand_read_rule, &[&read(text), &lent(&mut output[..room])]);
+    for input in texts::READS {
+        let text = texts::read(input).ok_or(format!("no text {input}"))?;
+        expect(name, read_rule(&text.bytes, ROOM), text.answer.0)?;
+        let short = if text.answer.0 == 0 { 66 } else { text.answer.0 };
+        expect(name, read_rule(&text.bytes, 0), short)?;
+    }
+    expect(name, read_rule(&[b'!'; texts::TEXT + 1], ROOM), 65)?;
+    (0..100).flat_map(edited::texts).for_each(|text| {
+        read_rule(&text, ROOM);
+    });
+    Ok(())
+}
+
+/// The deepest rules, and those whose texts are timed.
+fn writes(most: &mut Most) -> Result<(), String> {
+    let (name, mut output) = ("doilystrand_write_rule", lent_output(ROOM));
+    let timed = texts::WRITES.into_iter().filter_map(texts::write).map(|rule| rule.bytes);
+    for rule in deep::rules(u16::MAX).into_iter().chain(timed) {
+        for (room, expected) in [(ROOM, 0), (0, 66)] {
+            let arguments = [read(&rule), lent(&mut output[..room])].concat();
+            expect(name, call(most, name, doilystrand_write_rule, &[&arguments]), expected)?;
+        }
+    }
+    Ok(())
+}
+
 /// Those that are handed a rule or a chart alone, and the row.
 fn others(most: &mut Most) -> Result<(), String> {
     for rule in deep::rules(u16::MAX) {
@@ -133,6 +167,8 @@ pub fn measured() -> Result<Most, String> {
     counts(&mut most)?;
     shows(&mut most)?;
     map_checks(&mut most)?;
+    reads(&mut most)?;
+    writes(&mut most)?;
     others(&mut most)?;
     Ok(most)
 }

@@ -1,7 +1,7 @@
 //! A plain peer of the library's check, by the published method: shortest times by Dijkstra's search backwards from the
 //! goals, longest times over strongly connected components. It parses, refuses and marks as the library does. A run is
 //! shown by a search over steps after that. Counting the minutes is a method of its own, over the same chart and rule,
-//! written twice: quick and plain.
+//! written twice: quick and plain. Rules typed as text are read by recursive descent, and written down their tree.
 
 mod arrows;
 mod chart;
@@ -11,6 +11,7 @@ mod counts;
 mod layers;
 mod longest;
 mod minutes;
+mod read_rule;
 mod rounds;
 mod rows;
 mod rule;
@@ -19,13 +20,16 @@ mod shortest;
 mod show;
 mod slots;
 mod waiting;
+mod write_rule;
 
 use chart::Chart;
 use rule::Rule;
 use settle::Settler;
 
 pub use count::{count, plain_count};
+pub use read_rule::read_rule;
 pub use show::{show, Written};
+pub use write_rule::write_rule;
 
 /// Number and place of a refusal; both 0 on success.
 #[derive(Clone, Copy, Debug, PartialEq, Eq)]

@@ -4,7 +4,8 @@ use crate::count::Count;
 use crate::input::Input;
 use crate::show::Show;
 use crate::timing::{Pair, Plan};
-use bench::{counted, families, rules, shown, small};
+use crate::typing::Typing;
+use bench::{counted, families, rules, shown, small, texts};
 use std::time::Duration;
 
 /// The times on the family's chart that has the greatest ratio.
@@ -45,6 +46,7 @@ pub fn quick() -> Result<(), String> {
     small_charts()?;
     shown_runs()?;
     counted_minutes()?;
+    typed_rules()?;
     println!("geometric mean {:.2}, worst family {:.2} {}", geometric_mean(&all), worst.0, worst.1);
     Ok(())
 }
@@ -67,6 +69,15 @@ fn shown_runs() -> Result<(), String> {
         let (show, _) = Show::named(chart, rule)?;
         let ratio = show.times(&QUICK).map_err(|why| format!("show, {chart}, {rule}: {why}"))?.ratio();
         println!("{rule:17}{ratio:8.2}");
+    }
+    Ok(())
+}
+
+fn typed_rules() -> Result<(), String> {
+    for name in texts::READS.into_iter().chain(texts::WRITES) {
+        let (typing, _) = Typing::named(name)?;
+        let ratio = typing.times(&QUICK).map_err(|why| format!("{name}: {why}"))?.ratio();
+        println!("{name:19}{ratio:6.2}");
     }
     Ok(())
 }

@@ -6,6 +6,8 @@ use crate::count_tables::count_tables;
 use crate::input::Input;
 use crate::ratios::worst_chart;
 use crate::show::Show;
+use crate::text_agreement::text_agreement;
+use crate::text_tables::text_tables;
 use crate::timing::{alone, Pair, Plan};
 use crate::worst;
 use bench::{families, maps, rules, shown};
@@ -22,6 +24,7 @@ pub fn all(plan: &Plan) -> Result<(), String> {
     worst::table()?;
     shown_runs(plan)?;
     count_tables(plan)?;
+    text_tables(plan)?;
     map_checks(plan)
 }
 
@@ -32,10 +35,17 @@ pub fn count(plan: &Plan) -> Result<(), String> {
     count_tables(plan)
 }
 
+/// The tables of read and write alone.
+pub fn text(plan: &Plan) -> Result<(), String> {
+    text_agreement()?;
+    how(plan);
+    text_tables(plan)
+}
+
 fn how(plan: &Plan) {
     println!("\nTimes in microseconds per call; {} batches of each program, fewer for slow inputs,", plan.batches);
     println!("taken in turn in one run after a warm-up. Marks and scratch are not cleared between calls; check clears");
-    println!("its scratch itself.\n");
+    println!("its scratch itself. Read and write, which are short, in nanoseconds.\n");
 }
 
 fn row(name: &str, times: &Pair) {

@@ -14,7 +14,8 @@ const OF_C: [&str; 1] = ["memset"];
 
 /// The functions that come to themselves again: each takes a node's number, which falls, so there are at most as many frames of
 /// them at a time as a rule has nodes.
-const RECURSIVE: [&str; 3] = ["settle::settle", "call_kind::all_runs", "call_kind::some_run"];
+const RECURSIVE: [&str; 4] =
+    ["settle::settle", "call_kind::all_runs", "call_kind::some_run", "rule_printer::print_node"];
 
 /// The bytes of stack at each step, from where the function was entered; none where nothing leads to.
 fn depths(steps: &[Step]) -> Result<Vec<Option<i64>>, String> {

@@ -72,6 +72,18 @@ extern "C" {
         output_size: usize,
     ) -> CodedWritten;
     pub fn doilystrand_kind_of_rule(rule: *const u8, rule_size: usize) -> CodedAnswer;
+    pub fn doilystrand_read_rule(
+        text: *const u8,
+        text_size: usize,
+        output: *mut u8,
+        output_size: usize,
+    ) -> CodedWritten;
+    pub fn doilystrand_write_rule(
+        rule: *const u8,
+        rule_size: usize,
+        output: *mut u8,
+        output_size: usize,
+    ) -> CodedWritten;
     #[rustfmt::skip]
     pub fn doilystrand_map_check(
         detail: *const u8,

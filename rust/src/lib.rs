@@ -1,9 +1,9 @@
 //! Safe calls into the proved checker of timed rules over dispatch charts.
 //!
-//! The library takes any bytes and tests them itself, so no input is tested here. Answers are: a number, a kind, a place
-//! in a table, a count of bytes written, or a mark of [`marks`](marks()), that the library promises never to give ends in
-//! a panic that names it.
-//! What is promised of each call stands in `docs/PROMISES.md`, the formats in `README.md`.
+//! The library takes any bytes and tests them itself, so no input is tested here. Answers are: a number, a kind, a
+//! place in a table, a count of bytes written, a byte of a text, or a mark of [`marks`](marks()), that the library
+//! promises never to give ends in a panic that names it. What is promised of each call stands in `docs/PROMISES.md`,
+//! the formats in `README.md`.
 //!
 //! ```
 //! // Short: 0 to 1 in 5 to 10 minutes, 1 to 2 in 0 to 4, 2 to 0 in 20 to no end.
@@ -19,6 +19,10 @@
 //!
 //! let refusal = doilystrand::marks(&chart[..38], &rule).unwrap_err();
 //! assert_eq!(refusal.to_string(), "refused 3 at 0: chart's stated length is not the real one");
+//!
+//! // The rule can be typed as text, and is written back as text.
+//! assert_eq!(doilystrand::rule_of("A(true U<=13 L2)")?, rule);
+//! assert_eq!(doilystrand::text_of(&rule)?, "A(true U<=13 L2)");
 //! # Ok::<(), doilystrand::Refusal>(())
 //! ```
 
@@ -32,24 +36,31 @@ mod map;
 mod marking;
 mod marks;
 mod outcome;
+mod read_rule;
 mod refusals;
 mod row;
 mod run;
 #[cfg(test)]
 mod samples;
 mod show;
+mod texts;
 mod why;
+mod write_rule;
+mod written;
 
 pub use arrow::{arrow, ArrowWords};
 pub use check::check;
 pub use count::count;
 pub use kind::{kind_of_rule, Kind, KindAnswer};
 pub use limits::{MAX_ARROWS, MAX_CHART, MAX_MAP, MAX_MARKS, MAX_NODES, MAX_RULE, MAX_SCRATCH, MAX_STATES, NO_END};
-pub use limits::{MAX_COUNT_BOUND, MAX_COUNT_SCRATCH, MAX_RUN, MAX_RUN_SCRATCH};
+pub use limits::{MAX_COUNT_BOUND, MAX_COUNT_SCRATCH, MAX_RULE_TEXT, MAX_RUN, MAX_RUN_SCRATCH, MAX_TEXT};
 pub use map::map_check;
 pub use marks::{marks, Marks};
 pub use outcome::{Outcome, Refusal};
+pub use read_rule::read_rule;
 pub use row::{row, Choice};
 pub use run::{Position, Run};
 pub use show::show;
+pub use texts::{rule_of, text_of};
 pub use why::why;
+pub use write_rule::write_rule;

@@ -31,6 +31,11 @@ pub const MAX_COUNT_BOUND: usize = 255;
 /// Numbers of scratch that are enough for every count: one for each minute left, at each state.
 pub const MAX_COUNT_SCRATCH: usize = (MAX_COUNT_BOUND + 1) * MAX_STATES;
 
+/// Bytes of the longest text that is read as a rule.
+pub const MAX_TEXT: usize = 4_096;
+/// Bytes of the longest text that a rule has: 31 untils, `E( U>=65535 )` without operands, 32 `true`, and a not.
+pub const MAX_RULE_TEXT: usize = 31 * 13 + 32 * 4 + 1;
+
 /// The most of an arrow whose slot has no end.
 pub const NO_END: u32 = 65_535;
 
@@ -38,7 +43,7 @@ pub const NO_END: u32 = 65_535;
 mod tests {
     use super::*;
     use crate::samples;
-    use crate::{check, count, map_check, show};
+    use crate::{check, count, map_check, read_rule, show, write_rule};
 
     fn defined(line: &str) -> Option<(&str, usize)> {
         let (name, value) = line.strip_prefix("#define DOILYSTRAND_")?.split_once(' ')?;
@@ -61,6 +66,8 @@ mod tests {
             ("MAX_RUN_SCRATCH", MAX_RUN_SCRATCH),
             ("MAX_COUNT_BOUND", MAX_COUNT_BOUND),
             ("MAX_COUNT_SCRATCH", MAX_COUNT_SCRATCH),
+            ("MAX_TEXT", MAX_TEXT),
+            ("MAX_RULE_TEXT", MAX_RULE_TEXT),
             ("NO_END", NO_END as usize),
         ];
         assert_eq!(header, ours);
@@ -108,5 +115,27 @@ mod tests {
         assert_eq!(shown(MAX_RUN_SCRATCH, MAX_RUN), MAX_RUN);
         assert_eq!(shown(MAX_RUN_SCRATCH - 1, MAX_RUN), 61);
         assert_eq!(shown(MAX_RUN_SCRATCH, MAX_RUN - 1), 62);
+    }
+    /// The number that a text with nothing lent is refused with: whether it is read at all.
+    fn unread(text: &str) -> u32 {
+        read_rule(text.as_bytes(), &mut []).expect_err("a refusal").outcome().number
+    }
+
+    #[test]
+    fn texts_go_to_the_longest() {
+        assert_eq!([unread(&"!".repeat(MAX_TEXT)), unread(&"!".repeat(MAX_TEXT + 1))], [64, 65]);
+        let nots = |count: usize| "!".repeat(count) + "true";
+        assert_eq!([unread(&nots(MAX_NODES - 1)), unread(&nots(MAX_NODES))], [66, 65]);
+    }
+
+    #[test]
+    fn the_longest_text_of_a_rule_takes_all_of_the_output() {
+        let (text, mut rule) = (samples::longest_text(), [0; MAX_RULE]);
+        assert_eq!(text.len(), MAX_RULE_TEXT);
+        assert_eq!(read_rule(text.as_bytes(), &mut rule).map(<[u8]>::len), Ok(MAX_RULE));
+        assert_eq!(unread(&text), 66);
+        assert_eq!(write_rule(&rule, &mut [0; MAX_RULE_TEXT]), Ok(text.as_str()));
+        let refusal = write_rule(&rule, &mut [0; MAX_RULE_TEXT - 1]).expect_err("a refusal");
+        assert_eq!(refusal.outcome().number, 66);
     }
 }

@@ -19,13 +19,10 @@ pub struct Run<'a> {
 }
 
 impl<'a> Run<'a> {
-    /// The run in the first bytes of the output.
-    pub(crate) fn written(output: &'a [u8], written: usize) -> Run<'a> {
-        let whole = written > 0 && written % SIZE == 0;
-        let found = output.get(..written).filter(|_| whole);
-        let bytes = found.unwrap_or_else(|| {
-            panic!("the library answers a run of {written} bytes, in an output of {} bytes", output.len())
-        });
+    /// The run of bytes that were written.
+    pub(crate) fn of(bytes: &'a [u8]) -> Run<'a> {
+        let whole = !bytes.is_empty() && bytes.len() % SIZE == 0;
+        assert!(whole, "the library answers a run of {} bytes", bytes.len());
         Run { bytes }
     }
 
@@ -63,15 +60,15 @@ impl fmt::Debug for Run<'_> {
 mod tests {
     use super::*;
 
-    const OUTPUT: [u8; 14] = [0, 0, 0, 0, 0, 5, 1, 2, 0, 1, 0, 0, 77, 77];
+    const BYTES: [u8; 12] = [0, 0, 0, 0, 0, 5, 1, 2, 0, 1, 0, 0];
 
     #[test]
     fn positions_are_read() {
-        let run = Run::written(&OUTPUT, 12);
+        let run = Run::of(&BYTES);
         let positions = [Position { state: 0, duration: 5 }, Position { state: 258, duration: 65_536 }];
         assert_eq!((run.steps(), run.positions().collect::<Vec<_>>()), (1, positions.to_vec()));
-        assert_eq!(run.bytes(), &OUTPUT[..12]);
-        assert_eq!(format!("{:?}", Run::written(&OUTPUT, 6)), "[Position { state: 0, duration: 5 }]");
+        assert_eq!(run.bytes(), BYTES);
+        assert_eq!(format!("{:?}", Run::of(&BYTES[..6])), "[Position { state: 0, duration: 5 }]");
     }
 
     #[test]
@@ -80,20 +77,14 @@ mod tests {
     }
 
     #[test]
-    #[should_panic = "the library answers a run of 18 bytes, in an output of 14 bytes"]
-    fn a_run_past_the_output_panics() {
-        let _ = Run::written(&OUTPUT, 18);
-    }
-
-    #[test]
-    #[should_panic = "the library answers a run of 8 bytes, in an output of 14 bytes"]
+    #[should_panic = "the library answers a run of 8 bytes"]
     fn part_of_a_position_panics() {
-        let _ = Run::written(&OUTPUT, 8);
+        let _ = Run::of(&BYTES[..8]);
     }
 
     #[test]
-    #[should_panic = "the library answers a run of 0 bytes, in an output of 14 bytes"]
+    #[should_panic = "the library answers a run of 0 bytes"]
     fn a_run_without_positions_panics() {
-        let _ = Run::written(&OUTPUT, 0);
+        let _ = Run::of(&[]);
     }
 }

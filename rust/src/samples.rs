@@ -40,3 +40,8 @@ pub fn some_run_of_at_least(minutes: usize) -> Vec<u8> {
 pub fn largest_map() -> Vec<u8> {
     framed([MAX_STATES].into_iter().chain(0..MAX_STATES))
 }
+
+/// As long as the text of 64 nodes can be: 31 untils of five digits, each in the next, under a not.
+pub fn longest_text() -> String {
+    "!".to_string() + &"E(".repeat(31) + "true" + &" U>=65535 true)".repeat(31)
+}

@@ -1,7 +1,7 @@
 //! Show, over lent buffers.
 
-use crate::call::{self, CodedWritten};
-use crate::{Refusal, Run};
+use crate::written::front;
+use crate::{call, Refusal, Run};
 
 /// Does as [`check`](crate::check) does, then shows a run that is the reason why an E-until node holds at the state, or
 /// why an A-until node bounded by "at most" doesn't.
@@ -57,25 +57,13 @@ pub fn show<'a>(
             output.len(),
         )
     };
-    run_of(coded, output)
-}
-
-fn run_of(coded: CodedWritten, output: &[u8]) -> Result<Run<'_>, Refusal> {
-    let CodedWritten { outcome, written } = coded;
-    match outcome.of_call(&[1..=19, 60..=62]).into_result() {
-        Ok(()) => Ok(Run::written(output, written)),
-        Err(refusal) => {
-            assert!(written == 0, "the library answers {written} bytes written, and yet {outcome}");
-            Err(refusal)
-        }
-    }
+    front(coded, &[1..=19, 60..=62], output).map(Run::of)
 }
 
 #[cfg(test)]
 mod tests {
     use super::*;
     use crate::samples::{SHORT, SOME_WITHIN_5, WITHIN_13};
-    use crate::Outcome;
 
     /// What Short and a rule of three nodes are shown with: buffers that are one longer than it wants.
     struct Lent {
@@ -136,11 +124,5 @@ mod tests {
         let mut lent = Lent::new();
         assert_eq!(lent.show(SOME_WITHIN_5, 2, 11, 19), Err(18));
         assert_eq!((lent.marks, lent.left(0, 0)), ([77; 10], true));
-    }
-
-    #[test]
-    #[should_panic = "the library answers 6 bytes written, and yet refused 60 at 0"]
-    fn bytes_of_a_refusal_panic() {
-        let _ = run_of(CodedWritten { outcome: Outcome { number: 60, place: 0 }, written: 6 }, &[0; 6]);
     }
 }

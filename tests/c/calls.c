@@ -16,6 +16,8 @@ _Static_assert(DOILYSTRAND_MAX_RUN == 257 * 6, "longest run");
 _Static_assert(DOILYSTRAND_MAX_RUN_SCRATCH == 257 * 256, "largest scratch of a run");
 _Static_assert(DOILYSTRAND_MAX_COUNT_BOUND == UINT8_MAX, "greatest bound of a count");
 _Static_assert(DOILYSTRAND_MAX_COUNT_SCRATCH == 256 * 256, "largest scratch of a count");
+_Static_assert(DOILYSTRAND_MAX_TEXT == 4096, "longest text that is read");
+_Static_assert(DOILYSTRAND_MAX_RULE_TEXT == 31 * 13 + 32 * 4 + 1, "longest text of a rule");
 _Static_assert(DOILYSTRAND_NO_END == UINT16_MAX, "no end");
 
 static int failures;
@@ -167,6 +169,86 @@ static void kinds_are_told(void) {
     expect(is(a.outcome, 10, 0) && a.kind == DOILYSTRAND_NEITHER, "an empty rule is not 10");
 }
 
+/* What texts and rules are turned into: as much as the longest of either takes, and one more. */
+static uint8_t turned[DOILYSTRAND_MAX_RULE_TEXT + 1];
+
+/* A call on an output of so many bytes: the output past what is written is as lent. */
+static doilystrand_written turn(doilystrand_written (*call)(const uint8_t *, size_t, uint8_t *, size_t),
+                                const void *bytes, size_t size, size_t output_size) {
+    memset(turned, 99, sizeof turned);
+    doilystrand_written w = call(bytes, size, turned, output_size);
+    expect(w.written <= output_size, "more is written than is lent");
+    for (size_t i = w.written; i < sizeof turned; i++) expect(turned[i] == 99, "more of the output is changed");
+    return w;
+}
+
+static doilystrand_written read_text(const char *text, size_t output_size) {
+    return turn(doilystrand_read_rule, text, strlen(text), output_size);
+}
+
+static doilystrand_written write_text(const uint8_t *of, size_t of_size, size_t output_size) {
+    return turn(doilystrand_write_rule, of, of_size, output_size);
+}
+
+static bool is_refused(doilystrand_written w, uint32_t number, uint32_t place) {
+    return is(w.outcome, number, place) && w.written == 0;
+}
+
+static bool is_written(doilystrand_written w, const void *bytes, size_t size) {
+    return is(w.outcome, 0, 0) && w.written == size && memcmp(turned, bytes, size) == 0;
+}
+
+static void texts_are_read(void) {
+    char deep[DOILYSTRAND_MAX_TEXT + 2] = {0};
+    expect(is_written(read_text("A(true U<=13 L2)", 32), rule, sizeof rule), "a text is another rule");
+    expect(is_written(read_text("A(true U<=13 L2)", 31), rule, sizeof rule), "31 bytes are too few for three nodes");
+    expect(is_refused(read_text("A(true U<=13 L2)", 30), 66, 0), "30 bytes are not 66");
+    expect(is_written(read_text("E(true U<=5 L2)", 31), some_rule, sizeof some_rule), "E is another rule");
+    expect(is_refused(read_text("A(true U<=65536 L2)", 31), 64, 14), "65,536 is not 64 at its last digit");
+    expect(read_text("A(true U<=65535 L2)", 31).written == 31, "65,535 is refused");
+    expect(is_refused(read_text("L16", 0), 64, 2), "L16 is not 64 at 2");
+    expect(is_refused(read_text("L15", 0), 66, 0), "L15 without an output is not 66");
+    expect(is_refused(read_text("true\n", 31), 64, 4), "a newline is not 64");
+    expect(is_refused(read_text("", 31), 64, 0), "an empty text is not 64");
+    memset(deep, '!', DOILYSTRAND_MAX_TEXT);
+    expect(is_refused(read_text(deep, 31), 64, DOILYSTRAND_MAX_TEXT), "the longest text that stops is not 64");
+    deep[DOILYSTRAND_MAX_TEXT] = '!';
+    expect(is_refused(read_text(deep, 31), 65, 0), "a longer text is not 65");
+    memcpy(deep + 64, "true", 5);
+    expect(is_refused(read_text(deep, 0), 65, 0), "65 nodes are not 65");
+    expect(read_text(deep + 1, sizeof turned).written == DOILYSTRAND_MAX_RULE, "64 nodes are refused");
+    expect(is_refused(doilystrand_read_rule(NULL, 0, NULL, 0), 64, 0), "nothing at all is not 64");
+}
+
+static void rules_are_written(void) {
+    static const char text[] = "A(true U<=13 L2)";
+    size_t size = sizeof text - 1;
+    expect(is_written(write_text(rule, sizeof rule, size + 1), text, size), "a rule has another text");
+    expect(is_written(write_text(rule, sizeof rule, size), text, size), "16 bytes are too few for the text");
+    expect(is_refused(write_text(rule, sizeof rule, size - 1), 66, 0), "15 bytes are not 66");
+    expect(is_refused(write_text(rule, 30, size), 12, 0), "a cut rule is not 12");
+    expect(is_refused(doilystrand_write_rule(rule, sizeof rule, NULL, 0), 66, 0), "an empty output is not 66");
+    expect(is_refused(doilystrand_write_rule(NULL, 0, NULL, 0), 10, 0), "nothing at all is not 10");
+}
+
+/* 31 untils, each in the next, under a not: read into the largest rule, and written back. */
+static void the_longest_text_comes_back(void) {
+    char text[DOILYSTRAND_MAX_RULE_TEXT + 1], *at = text;
+    uint8_t longest[DOILYSTRAND_MAX_RULE];
+    *at++ = '!';
+    for (int i = 0; i < 31; i++) at = (char *)memcpy(at, "A(", 2) + 2;
+    at = (char *)memcpy(at, "true", 4) + 4;
+    for (int i = 0; i < 31; i++) at = (char *)memcpy(at, " U<=65535 true)", 15) + 15;
+    *at = 0;
+    expect(at == text + DOILYSTRAND_MAX_RULE_TEXT, "the longest text's size");
+    expect(is_refused(read_text(text, sizeof longest - 1), 66, 0), "the largest rule manages with less output");
+    expect(read_text(text, sizeof longest).written == sizeof longest, "the longest text is not the largest rule");
+    memcpy(longest, turned, sizeof longest);
+    size_t size = DOILYSTRAND_MAX_RULE_TEXT;
+    expect(is_written(write_text(longest, sizeof longest, size), text, size), "another text comes back");
+    expect(is_refused(write_text(longest, sizeof longest, size - 1), 66, 0), "the longest text manages with less");
+}
+
 static void maps_are_checked(void) {
     size_t size = sizeof short_chart;
     expect(is(doilystrand_map_check(short_chart, size, short_chart, size, identity, sizeof identity), 0, 0),
@@ -289,6 +371,9 @@ int main(void) {
     minutes_are_counted();
     runs_are_shown();
     kinds_are_told();
+    texts_are_read();
+    rules_are_written();
+    the_longest_text_comes_back();
     maps_are_checked();
     rows_are_found();
     arrows_are_handed_out();

@@ -13,4 +13,6 @@ mod runs;
 mod show;
 mod show_refusals;
 mod shown;
+mod texts;
+mod typed;
 mod unordered;

@@ -12,6 +12,20 @@ pub fn put(byte: u8, at: usize, out: &mut [u8]) -> usize
     at + 1
 }
 
+// The bytes of a word.
+pub fn put_word(word: &[u8], at: usize, out: &mut [u8]) -> usize
+    requires { ⌜ Room at (now word) (now out) ⌝ }
+    ensures { λ r. ⌜ Appended at (now (word .entry)) r (now (out .entry)) (now (out .exit)) ⌝ }
+{
+    let mut end = at;
+    let mut i = 0;
+    while i < word.len() {
+        end = put(word[i], end, out);
+        i += 1;
+    }
+    end
+}
+
 // A number of two bytes.
 pub fn put_be16(x: u32, at: usize, out: &mut [u8]) -> usize
     requires { ⌜ (x < 65536) × Room at (wordBytes x) (now out) ⌝ }

@@ -11,7 +11,7 @@ use lib.Dec.{ltb, leb}
 use borrow.Author.Tests.{ltb-true, ltb-false, leb-true, eq-eqb, ne-eqb}
 use Rattle.base.specs.Every.{every}
 use Rattle.base.proofs.Truth.{and-iff}
-use Rattle.listing.specs.Value.{readAs}
+use Rattle.decimal.specs.Value.{readAs}
 use Rattle.arguments.specs.declared.Argument.the-variants.{Number, Other}
 use Rattle.arguments.specs.Argument.{isDigit, outOfRange, numberFrom, argumentOf}
 

@@ -5,7 +5,7 @@ use Prim.Native.Nat.{ℕ, min}
 use lib.ListN.{length}
 use lib.Dec.{eqb, leb}
 use Rattle.base.specs.Every.{every}
-use Rattle.listing.specs.Value.{readAs}
+use Rattle.decimal.specs.Value.{readAs}
 use Rattle.arguments.specs.declared.Argument.{Argument}
 use Rattle.arguments.specs.declared.Argument.the-variants.{Number, Other}
 

@@ -6,6 +6,8 @@ ghost use Rattle.call_map.specs.Refusals.{mapRefusal};
 ghost use Rattle.call_check.specs.Check.{Checked};
 ghost use Rattle.call_count.specs.Count.{Counted};
 ghost use Rattle.call_show.specs.Show.{Showed};
+ghost use Rattle.call_read_rule.specs.Read.{ReadAs};
+ghost use Rattle.call_write_rule.specs.Write.{Wrote};
 ghost use Rattle.call_reader.specs.Reading.{handed};
 ghost use Rattle.coded.specs.Coded.{Coded, sizeOf, codedArrow};
 use call_reader::Handed;
@@ -66,6 +68,20 @@ pub extern "C" fn doilystrand_kind_of_rule(rule: &[u8]) -> CodedAnswer
     let kind = answer.kind;
     let kind = coded::code_of(kind);
     CodedAnswer { outcome, kind }
+}
+
+#[no_mangle]
+pub extern "C" fn doilystrand_read_rule(text: &[u8], output: &mut [u8]) -> Written
+    ensures { λ r. ⌜ ReadAs (now (text .entry)) (now (output .entry)) r (now (output .exit)) ⌝ }
+{
+    call_read_rule::read_rule(text, output)
+}
+
+#[no_mangle]
+pub extern "C" fn doilystrand_write_rule(rule: &[u8], output: &mut [u8]) -> Written
+    ensures { λ r. ⌜ Wrote (now (rule .entry)) (now (output .entry)) r (now (output .exit)) ⌝ }
+{
+    call_write_rule::write_rule(rule, output)
 }
 
 #[no_mangle]

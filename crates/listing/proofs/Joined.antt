@@ -1,10 +1,9 @@
 -- Texts one after another, as a loop appends them.
-use mathlib.Core.Path.{_≡_, refl, sym, ap, subst, _∙_}
-use mathlib.Core.List.{List, [], _∷_, _++_}
+use mathlib.Core.Path.{_≡_, refl, subst}
+use mathlib.Core.List.{List, _++_}
 use Prim.Native.Nat.{ℕ, zero, suc, _+_, _*_, _-_, _≤_, _<_}
 use native.Mathlib.Omega.{arith}
-use lib.ListN.{length, getD, take, length-append}
-use lib.Seq.{take-suc, take-length}
+use lib.ListN.{length, length-append}
 use Rattle.listing.specs.Text.{joined}
 use Rattle.append.specs.Piece.{Room, Appended}
 use Rattle.append.proofs.Append.{appended-none, appended-both, room-second}
@@ -50,20 +49,6 @@ joined-size zero b f h = omega arith
 joined-size (suc k) b f h =
     let ih = joined-size k b f (λ i l. h i (omega arith)) in
     omega (arith, ih, h k (omega arith), length-append (joined k f) (f k))
-
--- byte j of a list, as a text
-abbrev pub byteAt : List ℕ → ℕ → List ℕ
-byteAt l j = getD l j 0 ∷ []
-
--- the bytes of a list, one after another, are the list
-joined-take : (l : List ℕ) (i : ℕ) → i ≤ length l → joined i (byteAt l) ≡ take i l
-unfolding joined
-joined-take l zero h = refl
-joined-take l (suc i) h =
-    ap (λ (s : List ℕ). s ++ getD l i 0 ∷ []) (joined-take l i (omega arith)) ∙ sym (take-suc l i 0 (omega arith))
-
-pub joined-bytes : (l : List ℕ) → joined (length l) (byteAt l) ≡ l
-joined-bytes l = joined-take l (length l) (omega arith) ∙ take-length l
 
 -- the same texts
 pub joined-same :

@@ -4,7 +4,8 @@ use mathlib.Core.List.{List, [], _∷_, _++_}
 use Prim.Native.Nat.{ℕ, _+_, _*_, _<_}
 use native.Mathlib.Omega.{arith}
 use lib.ListN.{getD}
-use Rattle.listing.specs.Text.{statesWord, nodesWord, space, newline, decimal}
+use Rattle.listing.specs.Text.{statesWord, nodesWord, space, newline}
+use Rattle.decimal.specs.Decimal.{decimal}
 use Rattle.listing.specs.Text.{markDigit, markLine, nodeLine, twoNumbers, listing}
 use Rattle.listing.proofs.Joined.{joined-same}
 use Rattle.listing.proofs.Rows.{row-inside}

@@ -4,10 +4,11 @@ use Prim.Native.Nat.{ℕ, suc, _+_, _*_, _^_, _≤_, _<_}
 use native.Mathlib.Omega.{arith}
 use lib.ListN.{length, getD, length-append}
 use Rattle.listing.specs.Text.{statesWord, nodesWord, refusedWord, atWord, space, newline}
-use Rattle.listing.specs.Text.{decimal, joined, markDigit, markLine, nodeLine, twoNumbers, listing, refusedLine}
+use Rattle.listing.specs.Text.{joined, markDigit, markLine, nodeLine, twoNumbers, listing, refusedLine}
+use Rattle.decimal.specs.Decimal.{decimal}
 use Rattle.append.specs.Piece.{Room}
 use Rattle.listing.proofs.Joined.{joined-size}
-use Rattle.listing.proofs.Decimal.{decimal-size}
+use Rattle.decimal.proofs.Decimal.{decimal-size}
 
 mark-size : (n start : ℕ) (marks : List ℕ) → length (markLine n marks start) ≤ n
 unfolding markLine

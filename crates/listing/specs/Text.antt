@@ -1,9 +1,10 @@
 -- The text that the desk program prints, as a list of bytes. The quoted sentences are of 01, on the desk program.
 use mathlib.Core.Bool.{cond}
 use mathlib.Core.List.{List, [], _∷_, _++_}
-use Prim.Native.Nat.{ℕ, zero, suc, _+_, _*_, _/_, _%_}
+use Prim.Native.Nat.{ℕ, zero, suc, _+_, _*_}
 use lib.ListN.{getD}
-use lib.Dec.{eqb, ltb}
+use lib.Dec.{eqb}
+use Rattle.decimal.specs.Decimal.{decimal}
 
 -- "states "
 abbrev pub statesWord : List ℕ
@@ -28,15 +29,6 @@ space = 32 ∷ []
 -- the end of a line
 abbrev pub newline : List ℕ
 newline = 10 ∷ []
-
--- the digits of x in base ten, the last standing for x % 10, of a number of at most so many digits
-unfoldable pub digitsBy : ℕ → ℕ → List ℕ
-digitsBy zero x = []
-digitsBy (suc most) x = cond (ltb x 10) [] (digitsBy most (x / 10)) ++ (48 + x % 10) ∷ []
-
--- a number in decimal, with no leading zeros: x has at most x + 1 digits
-unfoldable pub decimal : ℕ → List ℕ
-decimal x = digitsBy (suc x) x
 
 -- the texts f 0, f 1, .. up to f (k - 1), one after another
 unfoldable pub joined : ℕ → (ℕ → List ℕ) → List ℕ

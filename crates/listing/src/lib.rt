@@ -1,42 +1,11 @@
 // The text of a result, written into a lent buffer piece by piece.
 ghost use mathlib.Core.Path.{_≡_};
-ghost use Prim.Native.Nat.{_+_, _*_, _%_, _≤_};
+ghost use Prim.Native.Nat.{_+_, _*_, _≤_};
 ghost use lib.ListN.{length};
-ghost use Rattle.listing.specs.Text.{decimal, joined, markLine, nodeLine, twoNumbers};
+ghost use Rattle.listing.specs.Text.{joined, markLine, nodeLine, twoNumbers};
 ghost use Rattle.listing.specs.Text.{listing, refusedLine};
 ghost use Rattle.listing.specs.Text.{markDigit};
 ghost use Rattle.append.specs.Piece.{Room, Appended, AtFront};
-
-pub fn put_word(word: &[u8], at: usize, out: &mut [u8]) -> usize
-    requires { ⌜ Room at (now word) (now out) ⌝ }
-    ensures { λ r. ⌜ Appended at (now (word .entry)) r (now (out .entry)) (now (out .exit)) ⌝ }
-{
-    let mut end = at;
-    let mut i = 0;
-    while i < word.len() {
-        end = append::put(word[i], end, out);
-        i += 1;
-    }
-    end
-}
-
-// The last digit of x.
-fn digit(x: usize) -> u8
-    ensures { λ r. ⌜ r ≡ 48 + x % 10 ⌝ }
-{
-    48 + (x % 10) as u8
-}
-
-pub fn put_number(x: usize, at: usize, out: &mut [u8]) -> usize
-    requires { ⌜ Room at (decimal x) (now out) ⌝ }
-    ensures { λ r. ⌜ Appended at (decimal x) r (now (out .entry)) (now (out .exit)) ⌝ }
-{
-    if x < 10 {
-        return append::put(digit(x), at, out);
-    }
-    let end = put_number(x / 10, at, out);
-    append::put(digit(x), end, out)
-}
 
 fn mark_digit(byte: u8) -> u8
     ensures { λ r. ⌜ r ≡ markDigit byte ⌝ }
@@ -64,7 +33,7 @@ fn put_node(n: usize, marks: &[u8], t: usize, at: usize, out: &mut [u8]) -> usiz
     requires { ⌜ (t * n + n ≤ length (now marks)) × Room at (nodeLine n (now marks) t) (now out) ⌝ }
     ensures { λ r. ⌜ Appended at (nodeLine n (now (marks .entry)) t) r (now (out .entry)) (now (out .exit)) ⌝ }
 {
-    let numbered = put_number(t, at, out);
+    let numbered = decimal::put_number(t, at, out);
     let spaced = append::put(b' ', numbered, out);
     let marked = put_marks(marks, t * n, n, spaced, out);
     append::put(b'\n', marked, out)
@@ -88,10 +57,10 @@ fn put_numbers(first: &[u8], x: usize, second: &[u8], y: usize, out: &mut [u8]) 
     ensures { λ r. ⌜ Appended 0 (twoNumbers (now (first .entry)) x (now (second .entry)) y) r
         (now (out .entry)) (now (out .exit)) ⌝ }
 {
-    let mut end = put_word(first, 0, out);
-    end = put_number(x, end, out);
-    end = put_word(second, end, out);
-    put_number(y, end, out)
+    let mut end = append::put_word(first, 0, out);
+    end = decimal::put_number(x, end, out);
+    end = append::put_word(second, end, out);
+    decimal::put_number(y, end, out)
 }
 
 // The listing of k nodes at n states: at most 20 bytes in the first line, and 260 in each other.

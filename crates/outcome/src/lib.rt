@@ -79,5 +79,11 @@ pub const NO_RUN_FITS: u32 = 62;
 
 pub const LONG_BOUND: u32 = 63;
 
+pub const NOT_A_TEXT: u32 = 64;
+
+pub const TOO_MUCH: u32 = 65;
+
+pub const OUTPUT_SHORT: u32 = 66;
+
 // What is added to a chart's number if it is the overview's.
 pub const OVERVIEW: u32 = 40;

@@ -5,8 +5,9 @@ use Prim.Native.Nat.{ℕ, suc, _+_, _^_, _≤_, _<_}
 use native.Mathlib.Omega.{arith}
 use lib.ListN.{length, length-append}
 use lib.Dec.{ltb}
-use Rattle.listing.specs.Text.{atWord, newline, decimal}
-use Rattle.listing.proofs.Decimal.{decimal-size}
+use Rattle.listing.specs.Text.{atWord, newline}
+use Rattle.decimal.specs.Decimal.{decimal}
+use Rattle.decimal.proofs.Decimal.{decimal-size}
 use Rattle.run_listing.specs.RunText.{colonWord, minutesWord, metWord, aboveWord, neitherWord}
 use Rattle.run_listing.specs.RunText.{after, placeText, stepLine, endText, endLine}
 

@@ -6,7 +6,8 @@ use lib.ListN.{length}
 use lib.Dec.{ltb}
 use Rattle.base.specs.Tabulate.{tabulate}
 use Rattle.words.specs.Word.{word, long}
-use Rattle.listing.specs.Text.{atWord, newline, decimal}
+use Rattle.listing.specs.Text.{atWord, newline}
+use Rattle.decimal.specs.Decimal.{decimal}
 use Rattle.shown.specs.Shown.{Position, place}
 
 -- ": "

@@ -10,15 +10,15 @@ fn put_after(word: &[u8], x: usize, at: usize, out: &mut [u8]) -> usize
     requires { ⌜ Room at (after (now word) x) (now out) ⌝ }
     ensures { λ r. ⌜ Appended at (after (now (word .entry)) x) r (now (out .entry)) (now (out .exit)) ⌝ }
 {
-    let end = listing::put_word(word, at, out);
-    listing::put_number(x, end, out)
+    let end = append::put_word(word, at, out);
+    decimal::put_number(x, end, out)
 }
 
 fn put_place(state: usize, moment: usize, at: usize, out: &mut [u8]) -> usize
     requires { ⌜ Room at (placeText state moment) (now out) ⌝ }
     ensures { λ r. ⌜ Appended at (placeText state moment) r (now (out .entry)) (now (out .exit)) ⌝ }
 {
-    let end = listing::put_number(state, at, out);
+    let end = decimal::put_number(state, at, out);
     put_after(b" at ", moment, end, out)
 }
 
@@ -47,7 +47,7 @@ fn put_end_text(all: bool, c: usize, moment: usize, at: usize, out: &mut [u8]) -
         if c < moment {
             return put_after(b": above ", c, at, out);
         }
-        return listing::put_word(b": neither operand", at, out);
+        return append::put_word(b": neither operand", at, out);
     }
     put_after(b": until met at ", moment, at, out)
 }

@@ -10,6 +10,11 @@ pub struct Outcome {
 impl Outcome {
     pub(crate) const SUCCESS: Outcome = Outcome { number: 0, place: 0 };
 
+    /// A refusal that names no offender.
+    pub(crate) fn at_0(number: u32) -> Outcome {
+        Outcome { number, place: 0 }
+    }
+
     pub(crate) fn refused(self) -> bool {
         self.number != 0
     }

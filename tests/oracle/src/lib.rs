@@ -1,8 +1,9 @@
-//! Check, count, shown run, kind of rule, map check, row and chart reader, written from the customer's papers alone.
+//! Check, count, shown run, kind of rule, map check, row, chart reader and the two calls for rules typed as text, written
+//! from the customer's papers alone.
 //!
 //! Check settles untils by fixpoints over pairs of a state and a minute, and runs are searched for over the same pairs;
-//! count lists states for each number of minutes left. Nothing here measures a path. Where the papers leave a result
-//! free, a judge says whether somebody's is right.
+//! count lists states for each number of minutes left. Nothing here measures a path. Typed rules are read by Earley's
+//! method over a table of the grammar. Where the papers leave a result free, a judge says whether somebody's is right.
 
 mod answers;
 mod asked;
@@ -13,8 +14,11 @@ mod chart_rows;
 mod check;
 mod count;
 mod desk;
+mod earley;
 mod every_run;
 mod fill;
+mod front;
+mod grammar;
 mod judge_run;
 mod judge_show;
 mod judge_why;
@@ -28,6 +32,7 @@ mod members;
 mod minutes;
 mod position;
 mod reach;
+mod read_rule;
 mod reader;
 mod refusals;
 mod row;
@@ -36,11 +41,14 @@ mod rule_rows;
 mod search;
 mod settle;
 mod show;
+mod tree;
+mod typed_desk;
 mod unbounded;
 mod until;
 mod unvisited;
 mod verdict;
 mod why;
+mod write_rule;
 mod zero_loops;
 
 pub use answers::{ArrowWords, Choice, Kind, KindAnswer, Outcome, Written};
@@ -53,8 +61,11 @@ pub use judge_show::{judge_show, ShowCall};
 pub use judge_why::judge_why;
 pub use kind::kind_of_rule;
 pub use map_check::map_check;
+pub use read_rule::read_rule;
 pub use reader::{arrow, Reader};
 pub use row::row;
 pub use show::{fewest_steps, show};
+pub use typed_desk::{rule_text, typed_rule, TypedRule, TEXT_READ};
 pub use why::why_text;
+pub use write_rule::write_rule;
 pub use zero_loops::{has_leavable_loop_of_0_to_0, has_loop_of_fewest_0};

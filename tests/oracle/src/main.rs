@@ -1,7 +1,7 @@
 //! The calls from a command line.
 
 use oracle::{calls_text, counted_listing, judge_why, kind_of_rule, listing, map_check, refused_line, why_text};
-use oracle::{Kind, ASK_READ, CHART_READ, RULE_READ};
+use oracle::{rule_text, typed_rule, Kind, ASK_READ, CHART_READ, RULE_READ, TEXT_READ};
 use std::ffi::{OsStr, OsString};
 use std::fs::File;
 use std::io::{Read, Write};
@@ -9,12 +9,13 @@ use std::process::ExitCode;
 
 const USAGE: &str = "usage: oracle check CHART RULE | oracle kind RULE | oracle map DETAIL OVERVIEW MAP
        oracle count CHART RULE | oracle calls CHART RULE ASK | oracle why CHART RULE NODE STATE
-       oracle judge-why CHART RULE NODE STATE TEXT";
+       oracle judge-why CHART RULE NODE STATE TEXT
+       oracle read-rule TEXTFILE | oracle write-rule RULE";
 
 fn main() -> ExitCode {
     let words: Vec<OsString> = std::env::args_os().skip(1).collect();
     match answer(&words) {
-        Some(Ok(text)) => match std::io::stdout().write_all(text.as_bytes()) {
+        Some(Ok(text)) => match std::io::stdout().write_all(&text) {
             Ok(()) => ExitCode::SUCCESS,
             Err(_) => ExitCode::FAILURE,
         },
@@ -30,15 +31,17 @@ fn main() -> ExitCode {
 }
 
 /// What is printed, or what a judge finds wrong; None asks for the usage.
-fn answer(words: &[OsString]) -> Option<Result<String, String>> {
+fn answer(words: &[OsString]) -> Option<Result<Vec<u8>, String>> {
     let (call, given) = words.split_first()?;
     match (call.to_str()?, given) {
         ("judge-why", [chart, rule, node, state, text]) => {
             let (chart, rule, text) = (read(chart, CHART_READ), read(rule, RULE_READ), whole(text));
             let judged = judge_why(&chart, &rule, number(node)?, number(state)?, &String::from_utf8_lossy(&text));
-            Some(judged.map(|()| String::new()))
+            Some(judged.map(|()| Vec::new()))
         }
-        (call, given) => printed(call, given).map(Ok),
+        ("read-rule", [text]) => Some(Ok(typed(&read(text, TEXT_READ)))),
+        ("write-rule", [rule]) => Some(Ok(rule_text(&read(rule, RULE_READ)))),
+        (call, given) => printed(call, given).map(|text| Ok(text.into_bytes())),
     }
 }
 
@@ -55,6 +58,15 @@ fn printed(call: &str, given: &[OsString]) -> Option<String> {
             Some(why_text(&read(chart, CHART_READ), &read(rule, RULE_READ), number(node)?, number(state)?))
         }
         _ => None,
+    }
+}
+
+/// What desk_rule prints; the rule that it writes to a file is told in one line.
+fn typed(input: &[u8]) -> Vec<u8> {
+    let answer = typed_rule(input);
+    match answer.file {
+        Some(rule) => format!("{}\n", rule.iter().map(|byte| format!("{byte:02X}")).collect::<String>()).into_bytes(),
+        None => answer.printed,
     }
 }
 

@@ -1,4 +1,4 @@
-//! The fields of a rule.
+//! The fields of a rule, and its bytes from them.
 
 use crate::bytes::{byte_at, word_at};
 
@@ -57,4 +57,16 @@ fn node_at(rule: &[u8], at: usize) -> Node {
         b: word_at(rule, at + 4),
         c: word_at(rule, at + 6),
     }
+}
+
+/// Version, length, node count and the nodes.
+pub fn rule_bytes(nodes: &[Node]) -> Vec<u8> {
+    let length = 7 + 8 * nodes.len();
+    let head = [[1].as_slice(), &(length as u32).to_be_bytes(), &(nodes.len() as u16).to_be_bytes()].concat();
+    head.into_iter().chain(nodes.iter().flat_map(node_bytes)).collect()
+}
+
+fn node_bytes(node: &Node) -> Vec<u8> {
+    let words = [node.a, node.b, node.c].map(u16::to_be_bytes);
+    [[node.operation, node.bound_kind].as_slice(), words.as_flattened()].concat()
 }

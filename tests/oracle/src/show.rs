@@ -49,15 +49,10 @@ pub fn settle_run(
         return Err(outcome);
     }
     let leaving = Leaving::of(chart);
-    let asked = Asked::of(&leaving, rule, marks, node, state).ok_or(refused(60))?;
-    scratch.get_mut(..SCRATCH * state_count(chart)).ok_or(refused(61))?.fill(0);
+    let asked = Asked::of(&leaving, rule, marks, node, state).ok_or(Outcome::at_0(60))?;
+    scratch.get_mut(..SCRATCH * state_count(chart)).ok_or(Outcome::at_0(61))?.fill(0);
     let found = search(&asked, MOST_STEPS).filter(|found| POSITION * (found.steps + 1) <= room);
-    Ok(found.ok_or(refused(62))?.run())
-}
-
-/// None of the three names an offender.
-fn refused(number: u32) -> Outcome {
-    Outcome { number, place: 0 }
+    Ok(found.ok_or(Outcome::at_0(62))?.run())
 }
 
 /// The fewest steps of a true reason, however many; None where the node and the state are no such mark.

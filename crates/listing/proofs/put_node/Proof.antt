@@ -1,7 +1,8 @@
 -- The four parts of the line one after another.
 use borrow.Author.Needs.{needs}
 use denote.Ref.{now}
-use Rattle.listing.specs.Text.{space, newline, decimal, markLine, nodeLine}
+use Rattle.listing.specs.Text.{space, newline, markLine, nodeLine}
+use Rattle.decimal.specs.Decimal.{decimal}
 use Rattle.append.proofs.Append.{appended-both, room-second, room-parts}
 use Rattle.listing.proofs.put_node.Statement.{statement}
 use Rattle.listing.proofs.put_node.Tie as tie

@@ -1,7 +1,8 @@
 -- The four parts one after another.
 use borrow.Author.Needs.{needs}
 use denote.Ref.{now}
-use Rattle.listing.specs.Text.{decimal, twoNumbers}
+use Rattle.listing.specs.Text.{twoNumbers}
+use Rattle.decimal.specs.Decimal.{decimal}
 use Rattle.append.proofs.Append.{appended-both, room-second, room-parts}
 use Rattle.listing.proofs.put_numbers.Statement.{statement}
 use Rattle.listing.proofs.put_numbers.Tie as tie

@@ -1,4 +1,5 @@
-//! The bytes of charts and rules.
+//! The bytes of charts and rules, and the texts of rules.
 
 pub mod chart;
 pub mod rule;
+pub mod text;

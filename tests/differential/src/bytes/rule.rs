@@ -44,3 +44,10 @@ pub fn bytes(nodes: &[Node]) -> Vec<u8> {
     }
     framed(&words)
 }
+
+/// The nodes that a rule's bytes have after their head.
+pub fn nodes(rule: &[u8]) -> Vec<Node> {
+    let word = |x: &[u8], at: usize| u16::from_be_bytes([x[at], x[at + 1]]);
+    let read = |x: &[u8]| Node { operation: x[0], kind: x[1], a: word(x, 2), b: word(x, 4), c: word(x, 6) };
+    rule.get(7..).unwrap_or(&[]).chunks_exact(8).map(read).collect()
+}

@@ -2,7 +2,8 @@
 
 use std::panic::{catch_unwind, AssertUnwindSafe};
 
-use crate::cases::case::{Case, Table};
+use crate::calls::told::Told;
+use crate::cases::case::{Case, Lent, Table};
 
 #[derive(Clone, Copy, Debug, PartialEq, Eq)]
 pub enum Kind {
@@ -22,12 +23,44 @@ pub enum Part {
 
 #[derive(Clone, Debug, PartialEq, Eq)]
 pub enum Answer {
-    Check { number: u32, place: u32, marks: Vec<u8>, scratch: Vec<u32>, arrows: Vec<[u64; 4]> },
-    Count { number: u32, place: u32, marks: Vec<u8>, scratch: Vec<u32> },
-    Kind { number: u32, place: u32, kind: Kind },
-    Map { number: u32, place: u32 },
+    Check {
+        number: u32,
+        place: u32,
+        marks: Vec<u8>,
+        scratch: Vec<u32>,
+        arrows: Vec<[u64; 4]>,
+    },
+    Count {
+        number: u32,
+        place: u32,
+        marks: Vec<u8>,
+        scratch: Vec<u32>,
+    },
+    Kind {
+        number: u32,
+        place: u32,
+        kind: Kind,
+    },
+    Map {
+        number: u32,
+        place: u32,
+    },
     Row(Part),
-    Show { number: u32, place: u32, written: usize, marks: Vec<u8>, scratch: Vec<u32>, output: Vec<u8> },
+    Show {
+        number: u32,
+        place: u32,
+        written: usize,
+        marks: Vec<u8>,
+        scratch: Vec<u32>,
+        output: Vec<u8>,
+    },
+    /// Of read and write. The bytes behind the output, which are not lent, stand at its end.
+    Turned {
+        number: u32,
+        place: u32,
+        written: usize,
+        output: Vec<u8>,
+    },
     Stopped,
 }
 
@@ -40,7 +73,16 @@ impl Answer {
             Answer::Kind { number, place, .. } => Some((number, place)),
             Answer::Map { number, place } => Some((number, place)),
             Answer::Show { number, place, .. } => Some((number, place)),
+            Answer::Turned { number, place, .. } => Some((number, place)),
             Answer::Row(_) | Answer::Stopped => None,
+        }
+    }
+
+    /// What an accepted text or rule was turned into.
+    pub fn turned(&self) -> Option<&[u8]> {
+        match self {
+            Answer::Turned { number: 0, place: 0, written, output } => output.get(..*written),
+            _ => None,
         }
     }
 
@@ -70,25 +112,25 @@ fn part_of(table: &[u8], part: &[u8]) -> Part {
     Part::At { offset: at - start, bytes }
 }
 
-/// Number, place and count of bytes of a show; the wrapper gives a run or a refusal in place of them.
-mod written {
-    pub fn doilystrand(answer: Result<doilystrand::Run, doilystrand::Refusal>) -> (u32, u32, usize) {
-        match answer {
-            Ok(run) => (0, 0, run.bytes().len()),
-            Err(refusal) => (refusal.outcome().number, refusal.outcome().place, 0),
-        }
-    }
+/// Bytes behind the output of a text or a rule.
+pub const BEHIND: usize = 8;
 
-    pub fn oracle(answer: oracle::Written) -> (u32, u32, usize) {
-        (answer.outcome.number, answer.outcome.place, answer.written)
-    }
+/// What a text or a rule is to be turned into, as lent and as it is left, with the bytes behind it.
+pub fn with_behind(output: &Lent) -> Vec<u8> {
+    Lent::new(output.length + BEHIND, output.fill).bytes()
 }
 
-/// The same seven calls of either program, each with its own types.
+fn turned(output: &Lent, call: impl FnOnce(&mut [u8]) -> (u32, u32, usize)) -> Answer {
+    let mut bytes = with_behind(output);
+    let (number, place, written) = call(&mut bytes[..output.length]);
+    Answer::Turned { number, place, written, output: bytes }
+}
+
+/// The same calls of either program, each with its own types.
 macro_rules! program {
     ($name:ident) => {
         pub mod $name {
-            use super::{part_of, written, Answer, Case, Kind, Table};
+            use super::{part_of, turned, Answer, Case, Kind, Table, Told};
             use ::$name as program;
 
             fn kind_of(rule: &[u8]) -> Answer {
@@ -145,9 +187,11 @@ macro_rules! program {
                     Case::Show { chart, rule, marks, scratch, node, state, output } => {
                         let (mut marks, mut scratch, mut output) = (marks.bytes(), scratch.numbers(), output.bytes());
                         let answer = program::show(chart, rule, &mut marks, &mut scratch, *node, *state, &mut output);
-                        let (number, place, written) = written::$name(answer);
+                        let (number, place, written) = answer.told();
                         Answer::Show { number, place, written, marks, scratch, output }
                     }
+                    Case::Read { text, output } => turned(output, |lent| program::read_rule(text, lent).told()),
+                    Case::Write { rule, output } => turned(output, |lent| program::write_rule(rule, lent).told()),
                 }
             }
         }

@@ -1,6 +1,7 @@
 //! What the paper says of every answer, whatever the case: both programs are held to it.
 
 use crate::calls::compare::{Answer, Kind};
+use crate::calls::text_promises;
 use crate::cases::case::{Case, Lent};
 
 fn word(bytes: &[u8], at: usize) -> usize {
@@ -117,6 +118,6 @@ pub fn broken(case: &Case, answer: &Answer) -> Option<&'static str> {
         (_, Answer::Kind { number, kind, .. }) => {
             (*number != 0 && *kind != Kind::Neither).then_some("a refused rule has a kind")
         }
-        _ => None,
+        _ => text_promises::broken(case, answer),
     }
 }

@@ -43,6 +43,9 @@ fn brief(answer: &Answer) -> String {
             let (m, s, o) = (digest(marks), digest(scratch), digest(output));
             format!("number {number}, place {place}, written {written}, marks {m}, scratch {s}, output {o}")
         }
+        Answer::Turned { number, place, written, output } => {
+            format!("number {number}, place {place}, written {written}, output {}", digest(output))
+        }
         other => format!("{other:?}"),
     }
 }

@@ -1,4 +1,4 @@
-//! The run: named cases first, then random ones; or one case alone.
+//! The run: named cases first, then random ones, then rules typed as text; or one case alone.
 
 use std::time::Instant;
 
@@ -7,9 +7,11 @@ use crate::calls::count_as_check;
 use crate::calls::promises;
 use crate::calls::report::{self, say};
 use crate::calls::show_judge;
-use crate::calls::summary::Summary;
+use crate::calls::summary::{Source, Summary};
+use crate::calls::there_and_back;
 use crate::cases::case::Case;
 use crate::cases::last::{Last, Which};
+use crate::cases::short;
 use crate::named::charts;
 use crate::named::counts;
 use crate::named::expected::Named;
@@ -20,8 +22,12 @@ use crate::named::minutes;
 use crate::named::passing;
 use crate::named::rules;
 use crate::named::shows;
+use crate::named::texts;
 use crate::named::timelocks;
+use crate::named::typed_limits;
+use crate::named::written;
 use crate::random::generate;
+use crate::random::typed;
 
 /// The run stops after so many differences.
 pub const SHOWN: u64 = 5;
@@ -38,6 +44,9 @@ fn named() -> Vec<Named> {
     counts::all(&mut list);
     minutes::all(&mut list);
     passing::all(&mut list);
+    texts::all(&mut list);
+    typed_limits::all(&mut list);
+    written::all(&mut list);
     large::all(&mut list);
     list
 }
@@ -49,8 +58,14 @@ fn difference(case: &Case, answers: &Both) -> Option<String> {
     }
     let sides = [("the library", &answers.library), ("the oracle", &answers.oracle)];
     let broken = |(name, answer): &(&str, &Answer)| Some(format!("{name}: {}", promises::broken(case, answer)?));
-    let judged = || show_judge::wrong(case, &answers.library).or_else(|| count_as_check::wrong(case, &answers.library));
-    sides.iter().find_map(broken).or_else(|| Some(format!("the library: {}", judged()?)))
+    sides.iter().find_map(broken).or_else(|| Some(format!("the library: {}", judged(case, &answers.library)?)))
+}
+
+/// What is wrong with the library's answer by a judge, or by the library's other calls.
+fn judged(case: &Case, answer: &Answer) -> Option<String> {
+    show_judge::wrong(case, answer)
+        .or_else(|| count_as_check::wrong(case, answer))
+        .or_else(|| there_and_back::wrong(case, answer))
 }
 
 fn against_paper(case: &Named, answers: &Both) -> Option<String> {
@@ -70,10 +85,10 @@ impl Run {
         self.differ >= SHOWN
     }
 
-    fn note(&mut self, name: &str, case: &Case, answers: &Both, what: Option<String>) {
+    fn note(&mut self, name: impl Fn() -> String, case: &Case, answers: &Both, what: Option<String>) {
         if let Some(what) = what {
             self.differ += 1;
-            report::difference(name, case, answers, &what);
+            report::difference(&name(), case, answers, &what);
         }
     }
 
@@ -85,8 +100,8 @@ impl Run {
             self.last.keep(Which::Named(number));
             let answers = both(&test.case);
             let what = difference(&test.case, &answers).or_else(|| against_paper(test, &answers));
-            self.summary.add(&test.case, &answers.oracle, false);
-            self.note(&format!("named case {number}, {}", test.name), &test.case, &answers, what);
+            self.summary.add(&test.case, &answers.oracle, Source::Named);
+            self.note(|| format!("named case {number}, {}", test.name), &test.case, &answers, what);
         }
     }
 
@@ -95,22 +110,51 @@ impl Run {
             if self.full() {
                 return;
             }
-            let case = generate::random(seed, number);
-            self.last.keep(Which::Random { seed, number });
-            let answers = both(&case);
-            let what = difference(&case, &answers);
-            self.summary.add(&case, &answers.oracle, true);
-            self.note(&format!("case {number} of seed {seed}"), &case, &answers, what);
+            let (case, name) = (generate::random(seed, number), || format!("case {number} of seed {seed}"));
+            let answers = self.compared(&case, Which::Random { seed, number }, name);
+            self.summary.add(&case, &answers.oracle, Source::Random);
         }
+    }
+
+    fn typed_rules(&mut self, seed: u64, count: u64) {
+        for number in 0..count {
+            if self.full() {
+                return;
+            }
+            let (case, name) = (typed::random(seed, number), || format!("text {number} of seed {seed}"));
+            let answers = self.compared(&case, Which::Text { seed, number }, name);
+            self.summary.add(&case, &answers.oracle, Source::Typed);
+        }
+    }
+
+    fn short_texts(&mut self) {
+        for number in 0..short::COUNT {
+            if self.full() {
+                return;
+            }
+            let answers = self.compared(&short::case(number), Which::Short(number), || format!("short text {number}"));
+            self.summary.short.add(&answers.oracle);
+        }
+    }
+
+    /// Both answers, after what differs is noted.
+    fn compared(&mut self, case: &Case, which: Which, name: impl Fn() -> String) -> Both {
+        self.last.keep(which);
+        let answers = both(case);
+        let what = difference(case, &answers);
+        self.note(name, case, &answers, what);
+        answers
     }
 }
 
 /// Runs all cases; true if none differs and every number was met.
-pub fn all(last: Last, seed: u64, count: u64) -> bool {
+pub fn all(last: Last, seed: u64, count: u64, texts: u64) -> bool {
     let began = Instant::now();
     let mut run = Run { summary: Summary::new(), differ: 0, last };
     run.named_cases();
     run.random_cases(seed, count);
+    run.typed_rules(seed, texts);
+    run.short_texts();
     if run.full() {
         say(&format!("stopped after {SHOWN} differences"));
     }
@@ -128,6 +172,8 @@ pub fn all(last: Last, seed: u64, count: u64) -> bool {
 pub fn one(mut last: Last, which: Which) -> Result<bool, String> {
     let case = match which {
         Which::Random { seed, number } => generate::random(seed, number),
+        Which::Text { seed, number } => typed::random(seed, number),
+        Which::Short(number) => short::case(number),
         Which::Named(number) => {
             let (list, at) = (named(), usize::try_from(number).unwrap_or(usize::MAX));
             let test = list.get(at).ok_or(format!("--named {number}: the last is {}", list.len() - 1))?;

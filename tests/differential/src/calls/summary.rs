@@ -1,29 +1,43 @@
-//! What was met: numbers per call, marks per operation, kinds of rule, what the shows and the counts met, and which loops
-//! the accepted charts had.
+//! What was met: numbers per call, marks per operation, kinds of rule, what the shows, counts, reads and writes met,
+//! and which loops the accepted charts had.
 
 use crate::calls::compare::{Answer, Kind, Part};
 use crate::calls::loops_met::LoopsMet;
 use crate::calls::met::Met;
-use crate::calls::{count_met, show_met};
+use crate::calls::short_met::ShortMet;
+use crate::calls::{count_met, read_met, show_met, write_met};
 use crate::cases::case::{Case, CALLS};
 
-const NUMBERS: usize = 64;
-/// Places in `CALLS`: the calls that answer a number, show and count.
-const NUMBERED: [usize; 5] = [0, COUNT, 1, 2, SHOW];
+const NUMBERS: usize = 67;
+/// Places in `CALLS`: the calls that answer a number, and some of these by name.
+const NUMBERED: [usize; 7] = [0, COUNT, 1, 2, SHOW, READ, WRITE];
 const SHOW: usize = 4;
 const COUNT: usize = 5;
+const READ: usize = 6;
+const WRITE: usize = 7;
 const FORMS: [&str; 9] = ["true", "label", "not", "and", "or", "E at most", "E at least", "A at most", "A at least"];
 const KINDS: [Kind; 4] = [Kind::AllRuns, Kind::SomeRun, Kind::Both, Kind::Neither];
 
-/// From this many cases on, the random ones have to meet every number by themselves.
+/// From this many cases on, the random ones have to meet every number by themselves; so do the typed and written rules,
+/// which are counted apart.
 const ENOUGH: u64 = 200_000;
 
 /// One random case in so many, at least, has to be a show, and one a count.
 const SHARE: u64 = 20;
 
+/// Where a case comes from.
+#[derive(Clone, Copy, PartialEq, Eq)]
+pub enum Source {
+    Named,
+    Random,
+    /// A rule typed as text, or written back.
+    Typed,
+}
+
 pub struct Summary {
     cases: [u64; CALLS.len()],
     random: u64,
+    typed: u64,
     /// Per call and number: named cases, random cases.
     numbers: Vec<[[u64; 2]; CALLS.len()]>,
     /// Per form of a node: marks that are 1, marks in all.
@@ -33,7 +47,10 @@ pub struct Summary {
     /// Of the random ones.
     shows: Met,
     counts: Met,
+    reads: Met,
+    writes: Met,
     loops: LoopsMet,
+    pub short: ShortMet,
 }
 
 /// The numbers that a call can answer with.
@@ -44,6 +61,8 @@ fn possible(call: usize, number: usize) -> bool {
         2 => number <= 9 || (19..=23).contains(&number) || (41..=49).contains(&number) || number == 59,
         SHOW => number <= 19 || (60..=62).contains(&number),
         COUNT => number <= 19 || number == 63,
+        READ => number == 0 || (64..=66).contains(&number),
+        WRITE => number == 0 || (10..=16).contains(&number) || number == 66,
         _ => false,
     }
 }
@@ -63,24 +82,29 @@ impl Summary {
         Summary {
             cases: [0; CALLS.len()],
             random: 0,
+            typed: 0,
             numbers: vec![[[0; 2]; CALLS.len()]; NUMBERS],
             marks: [[0; 2]; 9],
             kinds: [0; 4],
             parts: [0; 2],
             shows: Met::of(show_met::KINDS),
             counts: Met::of(count_met::all()),
+            reads: Met::of(read_met::all()),
+            writes: Met::of(write_met::all()),
             loops: LoopsMet::new(),
+            short: ShortMet::default(),
         }
     }
 
     pub fn total(&self) -> u64 {
-        self.cases.iter().sum()
+        self.cases.iter().sum::<u64>() + self.short.total()
     }
 
-    pub fn add(&mut self, case: &Case, answer: &Answer, random: bool) {
-        let call = case.call();
+    pub fn add(&mut self, case: &Case, answer: &Answer, source: Source) {
+        let (call, random) = (case.call(), source != Source::Named);
         self.cases[call] += 1;
-        self.random += random as u64;
+        self.random += u64::from(source == Source::Random);
+        self.typed += u64::from(source == Source::Typed);
         if let Some((number, _)) = answer.outcome() {
             if let Some(row) = self.numbers.get_mut(number as usize) {
                 row[call][random as usize] += 1;
@@ -97,6 +121,8 @@ impl Summary {
             (_, Answer::Row(part)) => self.parts[(*part != Part::Empty) as usize] += 1,
             (Case::Show { .. }, _) if random => self.shows.add(&show_met::kinds(case, answer)),
             (Case::Count { .. }, _) if random => self.counts.add(&count_met::kinds(case, answer)),
+            (Case::Read { .. }, _) if random => self.reads.add(&read_met::kinds(case, answer)),
+            (Case::Write { .. }, _) if random => self.writes.add(&write_met::kinds(case, answer)),
             _ => {}
         }
     }
@@ -116,26 +142,38 @@ impl Summary {
         }
     }
 
-    /// Each number that a call never met, each form whose marks were all alike, what no show and no count met, and loops
-    /// that no accepted chart had.
+    /// Whether there were enough random cases of a call to meet all there is by themselves.
+    fn is_strict(&self, call: usize) -> bool {
+        let random = if matches!(call, READ | WRITE) { self.typed } else { self.random };
+        random >= ENOUGH
+    }
+
+    /// Each number that a call never met, each form whose marks were all alike, what no show, count, read or write met,
+    /// loops that no accepted chart had, and what the short texts never came to.
     pub fn missing(&self) -> Vec<String> {
-        let strict = self.random >= ENOUGH;
-        let mut missing = self.missing_numbers(strict);
+        let mut missing = self.missing_numbers();
         for (kind, _) in KINDS.iter().zip(self.kinds).filter(|(_, met)| *met == 0) {
             missing.push(format!("kind {kind:?}"));
         }
-        if strict {
-            missing.extend(self.missing_kinds());
+        if self.is_strict(SHOW) {
+            missing.extend(self.missing_marks());
+            missing.extend(self.loops.missing());
+            missing.extend(self.rare());
         }
+        for (call, met) in [(SHOW, &self.shows), (COUNT, &self.counts), (READ, &self.reads), (WRITE, &self.writes)] {
+            let strict = self.is_strict(call);
+            missing.extend(met.missing().filter(|_| strict).map(|kind| format!("{}: {kind}", CALLS[call])));
+        }
+        missing.extend(self.short.missing());
         missing
     }
 
-    fn missing_numbers(&self, strict: bool) -> Vec<String> {
+    fn missing_numbers(&self) -> Vec<String> {
         let mut missing = Vec::new();
         for (number, row) in self.numbers.iter().enumerate() {
             for call in NUMBERED.into_iter().filter(|&call| possible(call, number)) {
                 let [named, random] = row[call];
-                if named + random == 0 || (strict && random == 0) {
+                if named + random == 0 || (self.is_strict(call) && random == 0) {
                     missing.push(format!("number {number} of {}", CALLS[call]));
                 }
             }
@@ -143,23 +181,17 @@ impl Summary {
         missing
     }
 
-    /// What enough random cases have to meet.
-    fn missing_kinds(&self) -> Vec<String> {
-        let mut missing = Vec::new();
-        for (form, [ones, all]) in FORMS.iter().zip(self.marks).skip(1) {
-            if ones == 0 || ones == all {
-                missing.push(format!("both marks of {form}"));
-            }
-        }
-        missing.extend(self.loops.missing());
-        for (call, met) in [(SHOW, &self.shows), (COUNT, &self.counts)] {
-            missing.extend(met.missing().map(|kind| format!("{}: {kind}", CALLS[call])));
-            let random: u64 = self.numbers.iter().map(|row| row[call][1]).sum();
-            if random * SHARE < self.random {
-                missing.push(format!("a {} in {SHARE} random cases", CALLS[call]));
-            }
-        }
-        missing
+    fn missing_marks(&self) -> Vec<String> {
+        let alike = |(_, [ones, all]): &(&&str, [u64; 2])| *ones == 0 || ones == all;
+        let forms = FORMS.iter().zip(self.marks).skip(1).filter(alike);
+        forms.map(|(form, _)| format!("both marks of {form}")).collect()
+    }
+
+    /// What too few random cases are.
+    fn rare(&self) -> Vec<String> {
+        let random = |call: &usize| self.numbers.iter().map(|row| row[*call][1]).sum::<u64>();
+        let rare = [SHOW, COUNT].into_iter().filter(|call| random(call) * SHARE < self.random);
+        rare.map(|call| format!("a {} in {SHARE} random cases", CALLS[call])).collect()
     }
 
     fn coverage(&self) -> String {
@@ -203,7 +235,8 @@ impl Summary {
             text += &format!("{:>12}  met {met} times\n", format!("{kind:?}"));
         }
         let (shows, counts, loops) = (self.shows.text(), self.counts.text(), self.loops.text());
-        text + &format!("shows met\n{shows}counts met\n{counts}accepted random charts that have\n{loops}")
+        text += &format!("shows met\n{shows}counts met\n{counts}accepted random charts that have\n{loops}");
+        text + &format!("reads met\n{}writes met\n{}{}", self.reads.text(), self.writes.text(), self.short.text())
     }
 }
 
@@ -212,5 +245,27 @@ fn share(part: u64, all: u64) -> f64 {
         0.0
     } else {
         100.0 * part as f64 / all as f64
+    }
+}
+
+#[cfg(test)]
+mod tests {
+    use super::{Source, Summary};
+    use crate::calls::compare::oracle;
+    use crate::named::{charts::List, texts, typed_limits, written};
+
+    #[test]
+    fn a_number_is_missing_until_it_is_met() {
+        let mut summary = Summary::new();
+        let missing = |summary: &Summary, what: &str| summary.missing().iter().any(|missing| missing == what);
+        let numbers = ["0 of read", "64 of read", "65 of read", "66 of read", "0 of write", "66 of write"];
+        assert!(numbers.iter().all(|number| missing(&summary, &format!("number {number}"))));
+        let mut list = List::new();
+        texts::all(&mut list);
+        typed_limits::all(&mut list);
+        written::all(&mut list);
+        list.iter().for_each(|test| summary.add(&test.case, &oracle::run(&test.case), Source::Named));
+        assert!(!numbers.iter().any(|number| missing(&summary, &format!("number {number}"))));
+        assert!(missing(&summary, "number 10 of write") && missing(&summary, "accepted short text"));
     }
 }

@@ -23,9 +23,11 @@ pub enum Case {
     Map { detail: Vec<u8>, overview: Vec<u8>, map: Vec<u8> },
     Row { overview: Vec<u8>, detail: Vec<u8>, choice: Table, n: usize, t: usize },
     Show { chart: Vec<u8>, rule: Vec<u8>, marks: Lent, scratch: Lent, node: usize, state: usize, output: Lent },
+    Read { text: Vec<u8>, output: Lent },
+    Write { rule: Vec<u8>, output: Lent },
 }
 
-pub const CALLS: [&str; 6] = ["check", "kind", "map", "row", "show", "count"];
+pub const CALLS: [&str; 8] = ["check", "kind", "map", "row", "show", "count", "read", "write"];
 
 impl Lent {
     pub fn new(length: usize, fill: u64) -> Lent {
@@ -49,7 +51,7 @@ impl Case {
         match self {
             Case::Check { chart, .. } | Case::Count { chart, .. } | Case::Show { chart, .. } => vec![chart],
             Case::Map { detail, overview, .. } => vec![detail, overview],
-            Case::Kind { .. } | Case::Row { .. } => Vec::new(),
+            Case::Kind { .. } | Case::Row { .. } | Case::Read { .. } | Case::Write { .. } => Vec::new(),
         }
     }
 
@@ -62,6 +64,8 @@ impl Case {
             Case::Row { .. } => 3,
             Case::Show { .. } => 4,
             Case::Count { .. } => 5,
+            Case::Read { .. } => 6,
+            Case::Write { .. } => 7,
         }
     }
 }

@@ -14,7 +14,17 @@ const WIDTH: usize = 56;
 #[derive(Clone, Copy, Debug, PartialEq, Eq)]
 pub enum Which {
     Named(u64),
-    Random { seed: u64, number: u64 },
+    Random {
+        seed: u64,
+        number: u64,
+    },
+    /// A rule typed as text, or written back.
+    Text {
+        seed: u64,
+        number: u64,
+    },
+    /// One of all the short texts.
+    Short(u64),
 }
 
 impl fmt::Display for Which {
@@ -22,6 +32,8 @@ impl fmt::Display for Which {
         match self {
             Which::Named(number) => write!(to, "--named {number}"),
             Which::Random { seed, number } => write!(to, "--seed {seed} --case {number}"),
+            Which::Text { seed, number } => write!(to, "--seed {seed} --text {number}"),
+            Which::Short(number) => write!(to, "--short {number}"),
         }
     }
 }
@@ -55,8 +67,9 @@ mod tests {
 
     #[test]
     fn the_widest_text_fits() {
-        let widest = Which::Random { seed: u64::MAX, number: u64::MAX };
-        assert!(widest.to_string().len() <= WIDTH);
-        assert!(Which::Named(u64::MAX).to_string().len() <= WIDTH);
+        let (seed, number) = (u64::MAX, u64::MAX);
+        for widest in [Which::Named(number), Which::Random { seed, number }, Which::Text { seed, number }] {
+            assert!(widest.to_string().len() <= WIDTH);
+        }
     }
 }

@@ -3,3 +3,4 @@
 pub mod case;
 pub mod last;
 pub mod replay;
+pub mod short;

@@ -33,6 +33,8 @@ pub fn text(case: &Case) -> String {
             let (lent, output) = (marking_text(chart, rule, marks, scratch), lent_text(output));
             format!("show {lent} node={node} state={state} output={output}")
         }
+        Case::Read { text, output } => format!("read text={} output={}", hex(text), lent_text(output)),
+        Case::Write { rule, output } => format!("write rule={} output={}", hex(rule), lent_text(output)),
     }
 }
 
@@ -112,6 +114,8 @@ pub fn parse(line: &str) -> Result<Case, String> {
             let (node, state, output) = (fields.number("node")?, fields.number("state")?, fields.lent("output")?);
             Ok(Case::Show { chart, rule, marks, scratch, node, state, output })
         }
+        "read" => Ok(Case::Read { text: fields.bytes("text")?, output: fields.lent("output")? }),
+        "write" => Ok(Case::Write { rule: fields.bytes("rule")?, output: fields.lent("output")? }),
         _ => Err(format!("unknown call {call:?} in the case")),
     }
 }
@@ -119,13 +123,14 @@ pub fn parse(line: &str) -> Result<Case, String> {
 #[cfg(test)]
 mod tests {
     use super::{parse, text};
-    use crate::random::generate;
+    use crate::random::{generate, typed};
 
     #[test]
     fn a_line_gives_its_case_back() {
         for number in 0..3_000 {
-            let case = generate::random(7, number);
-            assert_eq!(parse(&text(&case)), Ok(case));
+            for case in [generate::random(7, number), typed::random(7, number)] {
+                assert_eq!(parse(&text(&case)), Ok(case));
+            }
         }
     }
 
@@ -141,6 +146,9 @@ mod tests {
             "row n=1",
             "show chart= rule=",
             "count chart= rule=",
+            "read text=",
+            "read output=3/0",
+            "write output=3/0",
         ] {
             assert!(parse(line).is_err(), "{line}");
         }

@@ -21,6 +21,12 @@ pub enum Expected {
     Run(&'static str),
     /// Accepted, with a run of so many steps.
     Steps(usize),
+    /// Accepted, with this rule in hex.
+    Rule(&'static str),
+    /// Accepted, with this rule.
+    Nodes(Vec<Node>),
+    /// Accepted, with this text.
+    Text(String),
 }
 
 pub struct Named {
@@ -60,6 +66,9 @@ impl Named {
                 output.get(..*written).is_some_and(|run| hex(run) == *text)
             }
             (Expected::Steps(steps), Answer::Show { number: 0, place: 0, written, .. }) => *written == 6 * (steps + 1),
+            (Expected::Rule(text), Answer::Turned { .. }) => answer.turned().is_some_and(|rule| hex(rule) == *text),
+            (Expected::Nodes(nodes), Answer::Turned { .. }) => answer.turned() == Some(&rule::bytes(nodes)),
+            (Expected::Text(text), Answer::Turned { .. }) => answer.turned() == Some(text.as_bytes()),
             (Expected::Outcome(number, place), other) => other.outcome() == Some((*number, *place)),
             _ => false,
         }
@@ -99,6 +108,15 @@ pub fn show(bytes: (Vec<u8>, Vec<u8>), marks: usize, scratch: usize, at: [usize;
     let (marks, scratch, output) = (Lent::new(marks, FILL), Lent::new(scratch, FILL + 1), Lent::new(output, FILL + 2));
     let ((chart, rule), [node, state]) = (bytes, at);
     Case::Show { chart, rule, marks, scratch, node, state, output }
+}
+
+/// A text to be read, or a rule to be written, into so many bytes.
+pub fn read(text: impl AsRef<[u8]>, output: usize) -> Case {
+    Case::Read { text: text.as_ref().to_vec(), output: Lent::new(output, FILL) }
+}
+
+pub fn write(rule: Vec<u8>, output: usize) -> Case {
+    Case::Write { rule, output: Lent::new(output, FILL) }
 }
 
 pub fn map(detail: Vec<u8>, overview: Vec<u8>, map: Vec<u8>) -> Case {

@@ -10,4 +10,7 @@ pub mod minutes;
 pub mod passing;
 pub mod rules;
 pub mod shows;
+pub mod texts;
 pub mod timelocks;
+pub mod typed_limits;
+pub mod written;

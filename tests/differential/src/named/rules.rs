@@ -3,7 +3,7 @@
 use crate::bytes::rule::{self, node, plain, Node, A, AND, E, LABEL, NOT, OR, TRUE};
 use crate::cases::case::Case;
 use crate::named::charts::{after_check, resized, with_first, List};
-use crate::named::expected::{add, check, count, just_true, short, show, Expected};
+use crate::named::expected::{add, check, count, just_true, short, show, write, Expected};
 
 /// What count answers where check answers this: 63 too, for a bound above 255.
 fn counted(rule: &[u8], number: u32, place: u32) -> Expected {
@@ -14,7 +14,7 @@ fn counted(rule: &[u8], number: u32, place: u32) -> Expected {
     }
 }
 
-/// A rule in check, in count and in show over Short and in kind of rule.
+/// A rule in check, in count and in show over Short, in kind of rule and in write.
 fn rule_row(list: &mut List, name: &str, rule: Vec<u8>, number: u32, place: u32) {
     let as_check = check(short().bytes(), rule.clone(), 64 * 3, 12);
     add(list, &format!("{name}, check"), as_check, Expected::Outcome(number, place));
@@ -22,8 +22,12 @@ fn rule_row(list: &mut List, name: &str, rule: Vec<u8>, number: u32, place: u32)
     add(list, &format!("{name}, count"), as_count, counted(&rule, number, place));
     let as_show = show((short().bytes(), rule.clone()), 64 * 3, 257 * 3, [0, 0], 6);
     add(list, &format!("{name}, show"), as_show, Expected::Outcome(after_check(number), place));
-    let as_kind = Case::Kind { rule };
+    let as_kind = Case::Kind { rule: rule.clone() };
     add(list, &format!("{name}, kind"), as_kind, Expected::Outcome(number, place));
+    add(list, &format!("{name}, write"), write(rule.clone(), 532), Expected::Outcome(number, place));
+    // The output is looked at last.
+    let short = if number == 0 { 66 } else { number };
+    add(list, &format!("{name}, write, output empty"), write(rule, 0), Expected::Outcome(short, place));
 }
 
 fn rule_frame(list: &mut List) {

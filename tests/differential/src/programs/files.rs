@@ -44,7 +44,17 @@ impl Stored {
         }
     }
 
-    fn write(&self, path: &Path) -> io::Result<()> {
+    /// What lies under a path.
+    pub fn found(path: &Path) -> io::Result<Stored> {
+        match fs::read(path) {
+            Ok(bytes) => Ok(Stored::Bytes(bytes)),
+            Err(_) if path.is_dir() => Ok(Stored::Folder),
+            Err(why) if why.kind() == io::ErrorKind::NotFound => Ok(Stored::Missing),
+            Err(why) => Err(why),
+        }
+    }
+
+    pub fn write(&self, path: &Path) -> io::Result<()> {
         match self {
             Stored::Bytes(bytes) => fs::write(path, bytes),
             Stored::Missing => Ok(()),

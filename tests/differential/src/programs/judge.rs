@@ -6,8 +6,8 @@ use std::process::Output;
 const SHOWN: usize = 280;
 const BEFORE: usize = 60;
 
-pub fn difference(ended: &Output, text: &str) -> Option<String> {
-    badly_ended(ended).or_else(|| first_difference(("program", &ended.stdout), ("oracle", text.as_bytes())))
+pub fn difference(ended: &Output, text: impl AsRef<[u8]>) -> Option<String> {
+    badly_ended(ended).or_else(|| first_difference(("program", &ended.stdout), ("oracle", text.as_ref())))
 }
 
 pub fn badly_ended(ended: &Output) -> Option<String> {

@@ -133,7 +133,7 @@ fn joined(rng: &mut Rng, soil: &Soil, taste: Taste, a: usize, b: usize) -> Node 
 }
 
 /// Numbers the nodes anew in any order in which operands are lower than their node.
-fn renumbered(rng: &mut Rng, nodes: &[Node]) -> Vec<Node> {
+pub fn renumbered(rng: &mut Rng, nodes: &[Node]) -> Vec<Node> {
     let mut number = vec![usize::MAX; nodes.len()];
     let mut out = Vec::with_capacity(nodes.len());
     while out.len() < nodes.len() {

@@ -4,7 +4,7 @@ use crate::make::{label, map, rule, run, short, undo, Numbers, TRUE};
 use crate::show_call::call;
 use oracle::{
     arrow, calls_text, check, count, counted_listing, fewest_steps, has_leavable_loop_of_0_to_0, has_loop_of_fewest_0,
-    judge_run, judge_why, kind_of_rule, listing, map_check, why_text,
+    judge_run, judge_why, kind_of_rule, listing, map_check, read_rule, rule_text, typed_rule, why_text, write_rule,
 };
 
 /// Some bytes replaced, then cut or lengthened now and then.
@@ -56,6 +56,23 @@ fn damaged_bytes_shown() {
     }
 }
 
+/// What is written is read again, and what is read is written again.
+#[test]
+fn damaged_rules_and_texts() {
+    let mut numbers = Numbers(13);
+    let three = rule(&[TRUE, label(2), (6, 1, 0, 1, 4)]);
+    for _ in 0..5000 {
+        let (rule, text) = (damaged(&mut numbers, three.clone()), damaged(&mut numbers, b"A(true U<=4 L2)".to_vec()));
+        let (mut output, mut back) = ([7; 40], [7; 40]);
+        let wrote = write_rule(&rule, &mut output[..numbers.below(40) as usize]).written;
+        assert!(wrote == 0 || read_rule(&output[..wrote], &mut back).written == rule.len());
+        let wrote = read_rule(&text, &mut output[..numbers.below(40) as usize]).written;
+        assert!(wrote == 0 || write_rule(&output[..wrote], &mut back).written == text.len());
+        typed_rule(&rule);
+        rule_text(&text);
+    }
+}
+
 #[test]
 fn all_ones_and_nothing() {
     for length in 0..40 {
@@ -64,5 +81,7 @@ fn all_ones_and_nothing() {
         assert_eq!(count(&bytes, &bytes, &mut [], &mut []).number, if length < 9 { 1 } else { 2 });
         assert_eq!(kind_of_rule(&bytes).outcome.number, if length < 7 { 10 } else { 11 });
         assert_eq!(map_check(&short(), &short(), &bytes).number, 20);
+        assert_eq!(write_rule(&bytes, &mut []).outcome.number, if length < 7 { 10 } else { 11 });
+        assert_eq!(read_rule(&bytes, &mut []).outcome.number, 64);
     }
 }

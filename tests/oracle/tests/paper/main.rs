@@ -1,14 +1,17 @@
 //! The papers' own examples, and the rules they give for every input.
 
 mod any_bytes;
+mod beginnings;
 mod buffers;
 mod calls;
 mod count_agrees;
 mod count_buffers;
 mod count_refusals;
 mod counted;
+mod crossed_out;
 mod durations;
 mod fewest;
+mod formulas;
 mod items;
 mod judged_runs;
 mod judged_shows;
@@ -19,13 +22,20 @@ mod make;
 mod map_refusals;
 mod readers;
 mod refusals;
+mod round_trips;
 mod row_19;
 mod rows;
+mod rule_texts;
 mod runs_that_count;
 mod show_buffers;
 mod show_call;
 mod show_refusals;
 mod shown;
 mod shown_loops;
+mod text_call;
+mod typed_limits;
+mod typed_programs;
+mod typed_refusals;
+mod typed_rules;
 mod whys;
 mod zero_loops;

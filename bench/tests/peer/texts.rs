@@ -1,0 +1,129 @@
+//! Rules typed as text and written back: every refusal with a neighbour that passes, and what is left in the output.
+
+use crate::common::{node, LENT_MARK};
+use bench::bytes::{self, Node};
+use bench::peer::{self, Written};
+
+/// What is written into so much output, or number and place; the rest is as lent.
+fn call(call: fn(&[u8], &mut [u8]) -> Written, given: impl AsRef<[u8]>, room: usize) -> Result<Vec<u8>, (u32, u32)> {
+    let mut output = vec![LENT_MARK; room];
+    let Written { outcome, written } = call(given.as_ref(), &mut output);
+    assert!(output[written..].iter().all(|&byte| byte == LENT_MARK));
+    assert!(outcome.number == 0 || written == 0);
+    if outcome.number > 0 {
+        return Err((outcome.number, outcome.place));
+    }
+    Ok(output[..written].to_vec())
+}
+
+fn read(text: impl AsRef<[u8]>) -> Result<Vec<u8>, (u32, u32)> {
+    call(peer::read_rule, text, 600)
+}
+
+fn write(nodes: &[Node]) -> Result<String, (u32, u32)> {
+    let text = call(peer::write_rule, bytes::rule(nodes), 600)?;
+    Ok(String::from_utf8(text).expect("ASCII"))
+}
+
+fn yes() -> Node {
+    node(0, 0, 0, 0, 0)
+}
+
+fn label(a: u16) -> Node {
+    node(1, 0, a, 0, 0)
+}
+
+fn not(a: u16) -> Node {
+    node(2, 0, a, 0, 0)
+}
+
+#[test]
+fn each_form_there_and_back() {
+    let trees: [(&str, &[Node]); 8] = [
+        ("true", &[yes()]),
+        ("!L15", &[label(15), not(0)]),
+        ("(L0 & L9)", &[label(0), label(9), node(3, 0, 0, 1, 0)]),
+        ("(L10 | true)", &[label(10), yes(), node(4, 0, 0, 1, 0)]),
+        ("E(L0 U<=0 L1)", &[label(0), label(1), node(5, 1, 0, 1, 0)]),
+        ("E(L0 U>=65535 L1)", &[label(0), label(1), node(5, 2, 0, 1, 65_535)]),
+        ("A(true U<=14 L2)", &[yes(), label(2), node(6, 1, 0, 1, 14)]),
+        ("A(!L1 U>=10 L1)", &[label(1), not(0), label(1), node(6, 2, 1, 2, 10)]),
+    ];
+    for (text, nodes) in trees {
+        assert_eq!(read(text), Ok(bytes::rule(nodes)), "{text}");
+        assert_eq!(write(nodes), Ok(text.to_string()));
+    }
+    let nested = [label(0), label(1), node(3, 0, 0, 1, 0), label(2), not(3), node(4, 0, 2, 4, 0)];
+    assert_eq!(read("((L0 & L1) | !L2)"), Ok(bytes::rule(&nested)));
+    assert_eq!(write(&[label(2), yes(), node(6, 1, 1, 0, 14)]), Ok("A(true U<=14 L2)".to_string()));
+}
+
+#[test]
+fn no_formula_could_go_on() {
+    for (text, place) in [
+        ("", 0),
+        ("x", 0),
+        ("tru", 3),
+        ("trux", 3),
+        ("true ", 4),
+        ("true\n", 4),
+        ("L16", 2),
+        ("L00", 2),
+        ("L150", 3),
+        ("( L0 & L1)", 1),
+        ("(L0)", 3),
+        ("(L0 &L1)", 5),
+        ("(L0 & L1", 8),
+        ("E(L0 & L1)", 5),
+        ("A(true U==14 L2)", 8),
+        ("A(true U<= L2)", 10),
+        ("A(true U<=007 L2)", 11),
+        ("A(true U<=65536 L2)", 14),
+        ("A(true U<=70000 L2)", 14),
+        ("A(true U<=100000 L2)", 15),
+        ("A(true U<=14 L2", 15),
+    ] {
+        assert_eq!(read(text), Err((64, place)), "{text}");
+    }
+    assert_eq!(read([b'L', 0xB1]), Err((64, 1)));
+    assert!(read("A(true U<=65535 L2)").is_ok() && read("L15").is_ok());
+}
+
+fn nots(count: usize, rest: &str) -> String {
+    "!".repeat(count) + rest
+}
+
+#[test]
+fn too_much() {
+    assert_eq!(read(nots(63, "true")).map(|rule| rule.len()), Ok(519));
+    assert_eq!(read(nots(64, "true")), Err((65, 0)));
+    assert_eq!(read(nots(70, "x")), Err((64, 70)));
+    assert_eq!([read(nots(4_096, "")), read(nots(4_097, ""))], [Err((64, 4_096)), Err((65, 0))]);
+    assert_eq!([read("?".repeat(4_096)), read("?".repeat(4_097))], [Err((64, 0)), Err((65, 0))]);
+    assert_eq!(read("(".repeat(4_096)), Err((64, 4_096)));
+    assert_eq!(read(nots(4_092, "true")), Err((65, 0)));
+}
+
+#[test]
+fn output_short() {
+    for (text, wanted) in [("true", 15), ("A(true U<=14 L2)", 31)] {
+        let room = |room| call(peer::read_rule, text, room).map(|rule| rule.len());
+        assert_eq!([room(wanted), room(wanted + 1)], [Ok(wanted); 2]);
+        assert_eq!([room(wanted - 1), room(0)], [Err((66, 0)); 2]);
+        let rule = read(text).unwrap();
+        let room = |room| call(peer::write_rule, &rule, room).map(|text| text.len());
+        assert_eq!([room(text.len()), room(text.len() + 1)], [Ok(text.len()); 2]);
+        assert_eq!([room(text.len() - 1), room(0)], [Err((66, 0)); 2]);
+    }
+    assert_eq!(call(peer::read_rule, nots(64, "true"), 0), Err((65, 0)));
+    assert_eq!(call(peer::read_rule, "true ", 0), Err((64, 4)));
+}
+
+#[test]
+fn refused_rules() {
+    let room = |rule: &[u8]| [0, 600].map(|room| call(peer::write_rule, rule, room));
+    assert_eq!(room(&[]), [Err((10, 0)), Err((10, 0))]);
+    assert_eq!(room(&bytes::rule(&[yes(), label(16)])), [Err((14, 1)), Err((14, 1))]);
+    assert_eq!(room(&bytes::rule(&[not(0)])), [Err((15, 0)), Err((15, 0))]);
+    assert_eq!(room(&bytes::rule(&[yes(), yes()])), [Err((16, 0)), Err((16, 0))]);
+}

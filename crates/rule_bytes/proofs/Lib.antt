@@ -1,0 +1,4 @@
+pub mod Sits
+pub mod Tree
+pub mod WrittenAccepted
+pub mod RoundTrip

@@ -1,0 +1,2 @@
+pub mod RuleBytes
+pub mod JoinNode

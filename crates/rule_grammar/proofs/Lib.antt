@@ -1,0 +1,5 @@
+pub mod Seen
+pub mod Sound
+pub mod Complete
+pub mod Judged
+pub mod From

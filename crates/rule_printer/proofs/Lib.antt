@@ -1,0 +1,4 @@
+pub mod Parts
+pub mod NodeText
+pub mod NodeCount
+pub mod Size

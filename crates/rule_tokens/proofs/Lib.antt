@@ -1,0 +1,5 @@
+pub mod Further
+pub mod Byte
+pub mod NumberLaw
+pub mod StartLaw
+pub mod SignLaw

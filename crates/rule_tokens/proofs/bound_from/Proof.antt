@@ -1,0 +1,40 @@
+-- Which of the two signs.
+use mathlib.Core.Path.{_≡_, refl, sym, ap, _∙_}
+use Prim.Native.Nat.{ℕ, _+_, _*_}
+use native.Mathlib.Omega.{arith}
+use borrow.Author.Needs.{needs}
+use Rattle.rule_grammar.specs.Machine.{less, more}
+use Rattle.rule_tokens.proofs.bound_from.Statement.{statement}
+use Rattle.rule_tokens.proofs.bound_from.Tie as tie
+
+-- where no < stands
+abbrev no-less : tie.After-stands2 → tie.Else1
+no-less c = c .before
+
+returns : tie.Need-returns
+returns c q e =
+    let then = c .before in
+    c .equal-from .ensures q less (ap (λ (x : ℕ). 8 * x + 1) e) ∙
+    rw (sym (then .before .stands .ensures .0) ∙ then .if1 .taken)
+
+returns-2 : tie.Need-returns-2
+returns-2 c q e =
+    let then = c .before in
+    let else = no-less (then .before) in
+    c .equal-from2 .ensures q more (ap (λ (x : ℕ). 8 * x + 2) e) ∙
+    rw (sym (else .before .stands .ensures .0) ∙ else .if1 .left, sym (then .before .stands2 .ensures .0) ∙ then .if2 .taken)
+
+returns-3 : tie.Need-returns-3
+returns-3 c q e =
+    let two = c .before in
+    let one = no-less (two .before) in
+    c .none .ensures ∙
+    rw (sym (one .before .stands .ensures .0) ∙ one .if1 .left, sym (two .before .stands2 .ensures .0) ∙ two .if2 .left)
+
+pub bound-from-spec : {M : Type 1} → statement M
+bound-from-spec =
+    tie.close
+    (tie.spec (λ c κs. search needs) (λ c. search needs) (λ c. search needs) (λ c. search needs)
+    (λ c κs. omega (arith, c .before .stands .ensures .1 (c .if1 .taken))) returns (λ c κs. search needs)
+    (λ c. search needs) (λ c. search needs) (λ c. search needs)
+    (λ c κs. omega (arith, c .before .stands2 .ensures .1 (c .if2 .taken))) returns-2 (λ c κs. search needs) returns-3)

@@ -1,0 +1,71 @@
+-- "=", the number, and the space.
+use mathlib.Core.Path.{_≡_, refl, sym, _∙_}
+use mathlib.Core.Bool.{true}
+use mathlib.Core.List.{List}
+use Prim.Native.Nat.{ℕ}
+use native.Mathlib.Omega.{arith}
+use denote.Ref.{now}
+use borrow.Author.Tests.{eq-eqb, ne-eqb}
+use borrow.Author.Needs.{needs}
+use Rattle.tctl.specs.Kind.{Runs, someRun, allRuns}
+use Rattle.rule_grammar.specs.Machine.{Sign, less, more, until}
+use Rattle.rule_tokens.specs.Tags.{byteIs, untilTag, joinTag}
+use Rattle.rule_tokens.specs.Number.{numberFrom}
+use Rattle.rule_tokens.specs.Sign.{limitOf, limitFrom}
+use Rattle.rule_tokens.proofs.Further.{number-ends}
+use Rattle.rule_tokens.proofs.equal_from.Statement.{statement}
+use Rattle.rule_tokens.proofs.equal_from.Tie as tie
+
+-- the start, where "=" was found, and the number behind it in each case
+abbrev start : tie.After-stands → tie.Start
+start c = c .before .before
+
+abbrev number : tie.After-struct-known → tie.After-number-from
+number c = c .before
+
+equal : (c : tie.Then1) → byteIs (now (start (c .before) .args .text)) (start (c .before) .args .i) 61 ≡ true
+equal c = sym (c .before .stands .ensures .0) ∙ c .if1 .taken
+
+number-requires : tie.Need-number-from-requires
+number-requires c κs = (omega arith, omega arith, omega (arith, c .before .stands .ensures .1 (c .if1 .taken)))
+
+space-requires : tie.Need-space-from-requires
+space-requires c κs =
+    let n = number (c .before) in
+    let l = n .before .before .stands .ensures .1 (n .before .if1 .taken) in
+    rw (n .number-from .ensures) (number-ends 65535 _ _ (omega (arith, l)))
+
+-- the tag of an until does not depend on c
+until-tag : (q : Runs) (s : Sign) (c : ℕ) → untilTag q s ≡ joinTag (until q s c)
+until-tag someRun less c = refl
+until-tag someRun more c = refl
+until-tag allRuns less c = refl
+until-tag allRuns more c = refl
+
+-- and its c is at most 65,535 with either sign
+either-most : (q : Runs) (s : Sign) (t : List ℕ) (i : ℕ) → limitFrom q s t i ≡ limitOf q s t i (numberFrom 65535 t i)
+either-most q less t i = refl
+either-most q more t i = refl
+
+returns : tie.Need-returns
+returns c q s e =
+    let n = number (c .before .before) in
+    c .none .ensures ∙
+    rw (equal (n .before), either-most q s _ _, ← n .number-from .ensures, eq-eqb _ _ (c .before .if2 .taken))
+
+returns-2 : tie.Need-returns-2
+returns-2 c q s e =
+    let n = number (c .before .before) in
+    let v = n .number-from .result .value in
+    c .space-from .ensures (until q s v) (e ∙ until-tag q s v) refl ∙
+    rw (equal (n .before), either-most q s _ _, ← n .number-from .ensures, ne-eqb _ _ (c .before .if2 .left))
+
+returns-3 : tie.Need-returns-3
+returns-3 c q s e =
+    let else = c .before in c .none2 .ensures ∙ rw (sym (else .before .stands .ensures .0) ∙ else .if1 .left)
+
+pub equal-from-spec : {M : Type 1} → statement M
+equal-from-spec =
+    tie.close
+    (tie.spec (λ c κs. search needs) (λ c. search needs) number-requires (λ c. search needs) (λ c. search needs)
+    (λ c κs. search needs) returns space-requires returns-2 (λ c κs. search needs) returns-3)

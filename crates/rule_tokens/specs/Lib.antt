@@ -1,0 +1,4 @@
+pub mod Tags
+pub mod Number
+pub mod Start
+pub mod Sign
