@@ -130,11 +130,12 @@ fn reads(most: &mut Most) -> Result<(), String> {
     Ok(())
 }
 
-/// The deepest rules, and those whose texts are timed.
+/// The deepest rules, one with a number at its foot among them, and those whose texts are timed.
 fn writes(most: &mut Most) -> Result<(), String> {
     let (name, mut output) = ("doilystrand_write_rule", lent_output(ROOM));
     let timed = texts::WRITES.into_iter().filter_map(texts::write).map(|rule| rule.bytes);
-    for rule in deep::rules(u16::MAX).into_iter().chain(timed) {
+    let label = texts::rule(("!".repeat(deep::NODES - 1) + "L15").as_bytes()).ok_or("no rule of nots")?;
+    for rule in deep::rules(u16::MAX).into_iter().chain(timed).chain([label]) {
         for (room, expected) in [(ROOM, 0), (0, 66)] {
             let arguments = [read(&rule), lent(&mut output[..room])].concat();
             expect(name, call(most, name, doilystrand_write_rule, &[&arguments]), expected)?;

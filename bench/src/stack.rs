@@ -10,12 +10,25 @@ use std::collections::{BTreeMap, BTreeSet};
 const ADDRESS: i64 = 8;
 
 /// What is C's own counts with that address alone.
-const OF_C: [&str; 1] = ["memset"];
+const OF_C: [&str; 2] = ["memcpy", "memset"];
 
-/// The functions that come to themselves again: each takes a node's number, which falls, so there are at most as many frames of
-/// them at a time as a rule has nodes.
-const RECURSIVE: [&str; 4] =
-    ["settle::settle", "call_kind::all_runs", "call_kind::some_run", "rule_printer::print_node"];
+/// The functions that come to themselves again, and how many frames of them there are at a time, at most: they take a node's
+/// number, which falls, and a rule has so many nodes; or what is left of a number without its last digit.
+const RECURSIVE: [(&str, usize); 5] = [
+    ("settle::settle", NODES),
+    ("call_kind::all_runs", NODES),
+    ("call_kind::some_run", NODES),
+    ("rule_printer::print_node", NODES),
+    ("decimal::put_number", DIGITS),
+];
+
+/// The digits of the greatest number of 64 bits.
+const DIGITS: usize = 20;
+
+/// How many frames of a function there are at a time, at most; none where that is not known.
+fn frames_of(name: &str) -> Option<usize> {
+    RECURSIVE.iter().find(|(known, _)| *known == name).map(|(_, frames)| *frames)
+}
 
 /// The bytes of stack at each step, from where the function was entered; none where nothing leads to.
 fn depths(steps: &[Step]) -> Result<Vec<Option<i64>>, String> {
@@ -153,7 +166,7 @@ impl<'a> Stacks<'a> {
             frames.insert(name.as_str(), frame);
         }
         let reached: BTreeMap<_, _> = frames.keys().map(|&name| (name, reached(name, &frames))).collect();
-        match reached.iter().find(|(name, reached)| reached.contains(*name) && !RECURSIVE.contains(name)) {
+        match reached.iter().find(|(name, reached)| reached.contains(*name) && frames_of(name).is_none()) {
             Some((name, _)) => Err(format!("{name} comes to itself again, how often is not known")),
             None => Ok(Stacks { frames, reached }),
         }
@@ -172,7 +185,7 @@ impl<'a> Stacks<'a> {
         }
         let mut most = CallPath::of(name, frame.own);
         for &(to, depth) in &frame.calls {
-            let left = if self.is_recursive(name, to) { recursive.checked_sub(1) } else { Some(NODES - 1) };
+            let left = if self.is_recursive(name, to) { recursive.checked_sub(1) } else { Some(further(to)) };
             let Some(left) = left else { continue };
             let below = self.deepest(to, left, known);
             if depth + below.bytes > most.bytes {
@@ -186,8 +199,13 @@ impl<'a> Stacks<'a> {
     /// The deepest path from a function of the library.
     pub fn most(&self, name: &str) -> Option<CallPath<'a>> {
         let (&name, _) = self.frames.get_key_value(name)?;
-        Some(self.deepest(name, NODES - 1, &mut Known::new()))
+        Some(self.deepest(name, further(name), &mut Known::new()))
     }
+}
+
+/// How often a function that is called from outside may come to itself again.
+fn further(name: &str) -> usize {
+    frames_of(name).map_or(0, |frames| frames - 1)
 }
 
 #[cfg(test)]
@@ -240,8 +258,10 @@ mod tests {
     }
 
     #[test]
-    fn what_comes_to_itself_stands_there_once_for_each_node() {
+    fn what_comes_to_itself_stands_there_as_often_as_it_can() {
         assert_eq!(told(SETTLE, "settle::settle", &[]), Ok("1032: settle::settle 64 × 16, g 8".to_string()));
+        let digits = told(&SETTLE.replace("settle::settle", "decimal::put_number"), "decimal::put_number", &[]);
+        assert_eq!(digits, Ok("328: decimal::put_number 20 × 16, g 8".to_string()));
         let other = told(&SETTLE.replace("settle::settle", "other"), "other", &[]);
         assert_eq!(other, Err("other comes to itself again, how often is not known".to_string()));
     }

@@ -21,8 +21,9 @@ pub fn text_agreement() -> Result<(), String> {
         drawn_rule(seed, &mut written).map_err(|why| format!("write, seed-{seed}: {why}"))?;
         drawn_texts(seed, &mut read).map_err(|why| format!("read, seed-{seed}: {why}"))?;
     }
-    println!("On drawn rules and on their texts with single edits they answer alike: to write");
-    println!("{}; to read {}.", told(&written), told(&read));
+    println!("On drawn rules and on their texts with single edits they answer alike");
+    println!("to write: {};", told(&written));
+    println!("to read: {}.", told(&read));
     Ok(())
 }
 

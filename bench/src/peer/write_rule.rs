@@ -4,6 +4,9 @@ use super::rule::{Bound, Node, Rule};
 use super::show::Written;
 use super::{refusal, Outcome};
 
+/// No rule has a text of more bytes.
+const LONGEST: usize = 532;
+
 /// Writes the text of the rule.
 pub fn write_rule(rule: &[u8], output: &mut [u8]) -> Written {
     match text_of(rule).and_then(|text| put_text(&text, output)) {
@@ -14,7 +17,7 @@ pub fn write_rule(rule: &[u8], output: &mut [u8]) -> Written {
 
 fn text_of(rule: &[u8]) -> Result<String, Outcome> {
     let nodes = Rule::read(rule)?.nodes;
-    let mut text = String::new();
+    let mut text = String::with_capacity(LONGEST);
     put_node(&nodes, nodes.len() - 1, &mut text);
     Ok(text)
 }

@@ -78,3 +78,9 @@ pub fn marks(labels: &[u16], arrows: &[Arrow], nodes: &[Node]) -> Vec<u8> {
     assert_eq!(answer.scratch[4 * n..], [LENT_NUMBER; 3]);
     answer.marks[..k * n].to_vec()
 }
+
+/// On a stack that holds the deepest text, not optimized too: it is read by as many calls in one another as it has bytes.
+pub fn on_a_large_stack(test: fn()) {
+    let thread = std::thread::Builder::new().stack_size(16 << 20).spawn(test).expect("a thread");
+    thread.join().unwrap_or_else(|why| std::panic::resume_unwind(why));
+}

@@ -1,6 +1,6 @@
 //! Rules typed as text and written back: every refusal with a neighbour that passes, and what is left in the output.
 
-use crate::common::{node, LENT_MARK};
+use crate::common::{node, on_a_large_stack, LENT_MARK};
 use bench::bytes::{self, Node};
 use bench::peer::{self, Written};
 
@@ -98,10 +98,17 @@ fn too_much() {
     assert_eq!(read(nots(63, "true")).map(|rule| rule.len()), Ok(519));
     assert_eq!(read(nots(64, "true")), Err((65, 0)));
     assert_eq!(read(nots(70, "x")), Err((64, 70)));
-    assert_eq!([read(nots(4_096, "")), read(nots(4_097, ""))], [Err((64, 4_096)), Err((65, 0))]);
     assert_eq!([read("?".repeat(4_096)), read("?".repeat(4_097))], [Err((64, 0)), Err((65, 0))]);
-    assert_eq!(read("(".repeat(4_096)), Err((64, 4_096)));
-    assert_eq!(read(nots(4_092, "true")), Err((65, 0)));
+}
+
+#[test]
+fn as_deep_as_can_be() {
+    on_a_large_stack(|| {
+        assert_eq!([read(nots(4_096, "")), read(nots(4_097, ""))], [Err((64, 4_096)), Err((65, 0))]);
+        assert_eq!(read("(".repeat(4_096)), Err((64, 4_096)));
+        assert_eq!(read("A(".repeat(2_048)), Err((64, 4_096)));
+        assert_eq!(read(nots(4_092, "true")), Err((65, 0)));
+    });
 }
 
 #[test]

@@ -1,6 +1,7 @@
 //! The inputs of read and write have the bytes of their names and are answered as is said, and the edited texts are of
 //! every sort.
 
+use crate::common::on_a_large_stack;
 use bench::peer;
 use bench::{edited, texts};
 use std::collections::BTreeSet;
@@ -12,6 +13,10 @@ fn bytes(name: &str) -> usize {
 
 #[test]
 fn texts_have_the_bytes_of_their_names() {
+    on_a_large_stack(named_texts);
+}
+
+fn named_texts() {
     for name in texts::READS {
         let text = texts::read(name).expect(name);
         let read = peer::read_rule(&text.bytes, &mut [0; texts::RULE]).outcome;

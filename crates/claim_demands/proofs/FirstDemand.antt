@@ -35,6 +35,7 @@ use Rattle.call_reader.proofs.InOrder.{hands-out, finished-past, finished-at-on
 use Rattle.loops.specs.Refusal.{acceptedTable}
 use Rattle.loops.proofs.Accepted.{accepted-iff}
 use Rattle.call_map.specs.Refusals.{mapCheckTable}
+use Rattle.claim_texts.proofs.TextTold.{read-told, wrote-told}
 use Rattle.claim_demands.specs.FirstDemand.{KindTold, Wholly, PlaceTold, Itself, RowTold}
 use Rattle.claim_demands.specs.FirstDemand.{HandedTold, StepTold, NextTold, FirstDemand}
 use Rattle.claim_demands.proofs.Answers.{answers}
@@ -154,6 +155,8 @@ first-demand =
       count = judge-unbroken true;
       show = show-told;
       kind-of-rule = kind-told;
+      read-rule = λ t output r newOutput h. read-told h;
+      write-rule = λ rule output r newOutput h. wrote-told h;
       map-check = λ d o p r e. answers (mapCheckTable d o p) e (map-check-exact d o p);
       row = λ overview detail choice n t part. row-told (chosen choice overview detail) part n t;
       row-place = place-told;

@@ -39,6 +39,9 @@ use Rattle.judge.specs.Judge.{judgeTable}
 use Rattle.call_check.specs.Check.{Checked}
 use Rattle.call_count.specs.Count.{Counted}
 use Rattle.call_show.specs.Show.{Showed}
+use Rattle.call_read_rule.specs.Read.{ReadAs}
+use Rattle.call_write_rule.specs.Write.{Wrote}
+use Rattle.claim_texts.specs.TextTold.{ReadTold, WroteTold}
 use Rattle.claim_demands.specs.Acceptable.{Acceptable}
 use Rattle.claim_demands.specs.Answers.{Answers}
 use Rattle.claim_demands.specs.DetailRule.{Premises}
@@ -142,6 +145,11 @@ pub record FirstDemand : Type 0 where
       Showed chart rule marks scratch node state output r newMarks newScratch newOutput →
       ShowTold chart rule marks scratch node state output r newMarks newScratch newOutput
   pub kind-of-rule : (rule : List ℕ) (r : KindAnswer) → Answered rule r → KindTold rule r
+  pub read-rule :
+      (t output : List ℕ) (r : Written) (newOutput : List ℕ) → ReadAs t output r newOutput → ReadTold t output r newOutput
+  pub write-rule :
+      (rule output : List ℕ) (r : Written) (newOutput : List ℕ) → Wrote rule output r newOutput →
+      WroteTold rule output r newOutput
   -- "Map check tests the detail chart .., then the overview .., then 20 to 23."
   pub map-check :
       (d o p : List ℕ) (r : Outcome) → r ≡ mapRefusal d o p → Answers (mapCheckTable d o p) (Premises d o p) r

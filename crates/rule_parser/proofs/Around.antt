@@ -11,7 +11,7 @@ use Rattle.rule_bytes.specs.RuleBytes.{nodes, nodesFrom}
 use Rattle.rule_bytes.proofs.Tree.{some-nodes}
 use Rattle.rule_tokens.specs.Tags.{openTag, joinTag}
 use Rattle.rule_parser.specs.declared.Spot.{Spot}
-use Rattle.rule_parser.specs.Open.{held, written, coded}
+use Rattle.rule_stack.specs.Open.{held, written, coded}
 use Rattle.rule_parser.specs.Standing.{Opened, Noded, Reaches, Behind}
 use Rattle.rule_parser.proofs.Stack.{opened-size, opened-byte}
 

@@ -10,12 +10,13 @@ use lib.Dec.{eqb}
 use borrow.Author.Tests.{eqb-true, eqb-false}
 use Rattle.base.proofs.Truth.{cond-elim}
 use Rattle.rule_grammar.specs.Machine.{Opening}
-use Rattle.rule_tokens.specs.Tags.{openTag, byteIs}
+use Rattle.rule_tokens.specs.Tags.{openTag}
+use Rattle.rule_numbers.specs.Byte.{byteIs}
 use Rattle.rule_tokens.specs.declared.Token.{Token}
 use Rattle.rule_tokens.specs.Sign.{Signed, joins, unsigned, signOf, signToken}
 use Rattle.rule_tokens.proofs.SignLaw.{Joins, joined-next, joined-none, sign-law}
 use Rattle.rule_parser.specs.declared.Spot.{Spot}
-use Rattle.rule_parser.specs.Open.{put, oneNode, joinedNode}
+use Rattle.rule_stack.specs.Open.{put, oneNode, joinedNode}
 use Rattle.rule_parser.specs.Standing.{spot, Behind, Within, Turned}
 use Rattle.rule_parser.proofs.Stack.{opened-size}
 use Rattle.rule_parser.proofs.Around.{join-tag, Outermost, Negated, First, Second, outermost, negation, first-of-two, second-of-two}

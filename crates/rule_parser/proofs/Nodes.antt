@@ -8,7 +8,7 @@ use lib.Dec.{ltb}
 use lib.Seq.{sets, length-sets}
 use borrow.Author.Tests.{lt-ltb}
 use Rattle.base.proofs.Truth.{cond-elim}
-use Rattle.rule_parser.specs.Open.{put}
+use Rattle.rule_stack.specs.Open.{put}
 use Rattle.rule_parser.specs.Standing.{Noded}
 use Rattle.rule_parser.proofs.Stack.{take-sets}
 

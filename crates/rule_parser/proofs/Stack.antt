@@ -6,7 +6,7 @@ use native.Mathlib.Omega.{arith}
 use lib.ListN.{length, getD, take, drop, length-append}
 use lib.Seq.{sets, sets-eq, take-at, length-take-le, take-take, take-append-seam, getD-take, getD-append-add}
 use Rattle.rule_grammar.specs.Machine.{Context}
-use Rattle.rule_parser.specs.Open.{held, entry, coded}
+use Rattle.rule_stack.specs.Open.{held, entry, coded}
 use Rattle.rule_parser.specs.Standing.{Opened}
 
 -- a run of stores behind the first d bytes

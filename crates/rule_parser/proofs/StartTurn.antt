@@ -10,10 +10,10 @@ use Rattle.rule_bytes.specs.RuleBytes.{nodesFrom}
 use Rattle.rule_tokens.specs.Tags.{openTag}
 use Rattle.rule_tokens.specs.declared.Token.{Token}
 use Rattle.rule_tokens.specs.Start.{Start, truth, labels, negates, opens, nowhere, startOf, startToken}
-use Rattle.rule_tokens.proofs.Byte.{Span}
+use Rattle.rule_numbers.proofs.Byte.{Span}
 use Rattle.rule_tokens.proofs.StartLaw.{Begun, true-begun, label-begun, not-begun, open-begun, none-begun, start-law}
 use Rattle.rule_parser.specs.declared.Spot.{Spot}
-use Rattle.rule_parser.specs.Open.{put, oneNode}
+use Rattle.rule_stack.specs.Open.{put, oneNode}
 use Rattle.rule_parser.specs.Standing.{spot, Starting, Within, Turned}
 use Rattle.rule_parser.proofs.Around.{open-tag}
 use Rattle.rule_parser.proofs.Turns.{stop-turn, leaf-turn, push-turn}

@@ -17,10 +17,11 @@ use Rattle.rule_grammar.proofs.From.{from-end, from-step, from-stuck, from-halt
 use Rattle.rule_bytes.specs.RuleBytes.{nodes, nodeBytes, nodesFrom}
 use Rattle.rule_bytes.specs.JoinNode.{operationOf, kindOf, numberOf}
 use Rattle.rule_bytes.proofs.Tree.{some-nodes, joinBytes, join-nodes, join-bytes}
-use Rattle.rule_tokens.specs.Tags.{joinTag, byteIs}
-use Rattle.rule_tokens.proofs.Byte.{Span, byte-step, byte-not, inside-at}
+use Rattle.rule_tokens.specs.Tags.{joinTag}
+use Rattle.rule_numbers.specs.Byte.{byteIs}
+use Rattle.rule_numbers.proofs.Byte.{Span, byte-step, byte-not, inside-at}
 use Rattle.rule_parser.specs.declared.Spot.{Spot}
-use Rattle.rule_parser.specs.Open.{held, written, entry, coded, put, oneNode, joinedNode}
+use Rattle.rule_stack.specs.Open.{held, written, entry, coded, put, oneNode, joinedNode}
 use Rattle.rule_parser.specs.Standing.{spot, Opened, Noded, Within, Reaches, Starting, Behind, Finished, Standing, Turned}
 use Rattle.rule_parser.proofs.Stack.{opened-size, opened-byte, opened-around, opened-more}
 use Rattle.rule_parser.proofs.Nodes.{noded-more}

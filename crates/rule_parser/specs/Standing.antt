@@ -7,7 +7,7 @@ use Rattle.tctl.specs.Formula.{Formula}
 use Rattle.rule_grammar.specs.Grammar.{fault, formula}
 use Rattle.rule_grammar.specs.Machine.{Context, start, ended, State, at, judge, from}
 use Rattle.rule_bytes.specs.RuleBytes.{nodes, nodesFrom}
-use Rattle.rule_parser.specs.Open.{held, written, coded}
+use Rattle.rule_stack.specs.Open.{held, written, coded}
 use Rattle.rule_parser.specs.declared.Spot.{Spot}
 
 abbrev pub spot : ℕ → ℕ → ℕ → ℕ → Spot

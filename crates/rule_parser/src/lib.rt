@@ -2,13 +2,10 @@
 // in another.
 ghost use mathlib.Core.Path.{_≡_};
 ghost use mathlib.Core.Bool.{cond};
-ghost use mathlib.Core.List.{[], _∷_};
-ghost use Prim.Native.Nat.{_+_, _-_, _*_, _/_, _%_, _≤_, _<_};
+ghost use Prim.Native.Nat.{_≤_, _<_};
 ghost use lib.ListN.{length};
-ghost use lib.Seq.{sets};
 ghost use lib.Dec.{eqb};
 ghost use Rattle.rule_grammar.specs.Machine.{judge};
-ghost use Rattle.rule_parser.specs.Open.{put, joinedNode};
 ghost use Rattle.rule_parser.specs.Standing.{spot, Within, Starting, Behind, Standing, Turned};
 ghost use Rattle.rule_parser.specs.Read.{Reads};
 
@@ -33,52 +30,6 @@ pub struct Spot {
 pub struct Read {
     pub place: usize,
     pub count: usize,
-}
-
-fn low_byte(x: usize) -> u8
-    ensures { λ r. ⌜ r ≡ x % 256 ⌝ }
-{
-    (x % 256) as u8
-}
-
-// Writes node `count`, of which a and b are below 256, as far as there is room for 64.
-fn put_node(
-    count: usize,
-    operation: u8,
-    kind: u8,
-    a: u8,
-    b: u8,
-    high: u8,
-    low: u8,
-    nodes: &mut [u8],
-)
-    requires { ⌜ length (now nodes) ≡ 512 ⌝ }
-    ensures { λ _. ⌜ now (nodes .exit) ≡
-        put count (operation ∷ kind ∷ 0 ∷ a ∷ 0 ∷ b ∷ high ∷ low ∷ []) (now (nodes .entry)) ⌝ }
-{
-    if count < 64 {
-        let at = 8 * count;
-        nodes[at] = operation;
-        nodes[at + 1] = kind;
-        nodes[at + 2] = 0;
-        nodes[at + 3] = a;
-        nodes[at + 4] = 0;
-        nodes[at + 5] = b;
-        nodes[at + 6] = high;
-        nodes[at + 7] = low;
-    }
-}
-
-// What is kept of two operands behind the sign: c, the low byte of the first one's node, and the tag.
-fn push_join(number: u32, left: u8, tag: u8, at: usize, stack: &mut [u8])
-    requires { ⌜ (number < 65536) × (at + 4 ≤ length (now stack)) ⌝ }
-    ensures { λ _. ⌜ now (stack .exit) ≡
-        sets (now (stack .entry)) at (number / 256 ∷ number % 256 ∷ left ∷ tag ∷ []) ⌝ }
-{
-    stack[at] = (number / 256) as u8;
-    stack[at + 1] = (number % 256) as u8;
-    stack[at + 2] = left;
-    stack[at + 3] = tag;
 }
 
 fn stand(phase: u8, end: usize, depth: usize, count: usize) -> Spot
@@ -109,27 +60,13 @@ fn start_turn(text: &[u8], s: Spot, stack: &mut [u8], nodes: &mut [u8]) -> Spot
         return stop(token.end);
     }
     if token.tag < rule::NOT {
-        let label = low_byte(token.number as usize);
-        put_node(s.count, token.tag, 0, label, 0, 0, 0, nodes);
+        let label = rule_stack::low_byte(token.number as usize);
+        rule_stack::put_node(s.count, token.tag, 0, label, 0, 0, 0, nodes);
         return stand(BEHIND, token.end, s.depth, s.count + 1);
     }
     let top = s.depth;
     stack[top] = token.tag;
     stand(START, token.end, top + 1, s.count)
-}
-
-// The node of two operands, which is node `count`, from what is kept of them from place `at` on.
-fn put_join(count: usize, tag: u8, at: usize, stack: &[u8], nodes: &mut [u8])
-    requires { ⌜ (1 ≤ count) × (at + 4 ≤ length (now stack)) × (length (now nodes) ≡ 512) ⌝ }
-    ensures { λ _. ⌜ now (nodes .exit) ≡ put count (joinedNode tag at count (now (stack .entry))) (now (nodes .entry)) ⌝ }
-{
-    let left = stack[at + 2];
-    let high = stack[at];
-    let low = stack[at + 1];
-    let right = low_byte(count - 1);
-    let operation = tag / rule_tokens::JOINED;
-    let kind = tag % rule_tokens::JOINED;
-    put_node(count, operation, kind, left, right, high, low, nodes);
 }
 
 // Nothing is open: the text is read, or goes on.
@@ -154,8 +91,8 @@ fn behind_turn(text: &[u8], s: Spot, stack: &mut [u8], nodes: &mut [u8]) -> Spot
     let top = depth - 1;
     let tag = stack[top];
     if tag == rule::NOT {
-        let operand = low_byte(s.count - 1);
-        put_node(s.count, rule::NOT, 0, operand, 0, 0, 0, nodes);
+        let operand = rule_stack::low_byte(s.count - 1);
+        rule_stack::put_node(s.count, rule::NOT, 0, operand, 0, 0, 0, nodes);
         return stand(BEHIND, s.end, top, s.count + 1);
     }
     if tag < rule_tokens::JOINED {
@@ -163,13 +100,13 @@ fn behind_turn(text: &[u8], s: Spot, stack: &mut [u8], nodes: &mut [u8]) -> Spot
         if token.tag == rule_tokens::NONE {
             return stop(token.end);
         }
-        let left = low_byte(s.count - 1);
-        push_join(token.number, left, token.tag, top, stack);
+        let left = rule_stack::low_byte(s.count - 1);
+        rule_stack::push_join(token.number, left, token.tag, top, stack);
         return stand(START, token.end, depth + 3, s.count);
     }
-    if rule_tokens::stands(text, s.end, b')') {
+    if rule_numbers::stands(text, s.end, b')') {
         let below = depth - 4;
-        put_join(s.count, tag, below, stack, nodes);
+        rule_stack::put_join(s.count, tag, below, stack, nodes);
         return stand(BEHIND, s.end + 1, below, s.count + 1);
     }
     stop(s.end)

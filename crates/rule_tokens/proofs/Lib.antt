@@ -1,5 +1,2 @@
-pub mod Further
-pub mod Byte
-pub mod NumberLaw
 pub mod StartLaw
 pub mod SignLaw

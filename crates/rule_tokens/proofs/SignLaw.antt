@@ -19,11 +19,11 @@ use Rattle.rule_grammar.proofs.Seen.{digit-true}
 use Rattle.rule_grammar.proofs.Complete.{digit-no-space}
 use Rattle.rule_grammar.proofs.From.{from-step, from-halt, from-same}
 use Rattle.rule_bytes.specs.JoinNode.{numberOf}
-use Rattle.rule_tokens.specs.Tags.{byteIs}
-use Rattle.rule_tokens.specs.Number.{digitAt, further, numberFrom}
+use Rattle.rule_numbers.specs.Byte.{byteIs}
+use Rattle.rule_numbers.specs.Number.{digitAt, further, numberFrom}
 use Rattle.rule_tokens.specs.Sign.{Signed, joins, unsigned, spaceFrom, limitFrom, equalFrom, boundFrom, signFrom, signOf}
-use Rattle.rule_tokens.proofs.Byte.{Span, inside-at, byte-not, byte-step, digit-not}
-use Rattle.rule_tokens.proofs.NumberLaw.{Grown, further-grown}
+use Rattle.rule_numbers.proofs.Byte.{Span, inside-at, byte-not, byte-step, digit-not}
+use Rattle.rule_numbers.proofs.NumberLaw.{Grown, further-grown}
 
 -- c may have one digit
 nine-most : (g : Sign) (n : ℕ) → n ≤ 9 → n ≤ mostOf g

@@ -16,12 +16,12 @@ use Rattle.rule_grammar.specs.Machine.{Opening, pair, timed, Context, negated, 
 use Rattle.rule_grammar.specs.Machine.{quantified, ended, State, at, step, done, whole, from, digit, grows}
 use Rattle.rule_grammar.proofs.Seen.{digit-true}
 use Rattle.rule_grammar.proofs.From.{from-step, from-halt, from-same}
-use Rattle.rule_tokens.specs.Tags.{byteIs}
-use Rattle.rule_tokens.specs.Number.{digitAt, further, numberFrom}
+use Rattle.rule_numbers.specs.Byte.{byteIs}
+use Rattle.rule_numbers.specs.Number.{digitAt, further, numberFrom}
 use Rattle.rule_tokens.specs.Start.{Start, truth, labels, negates, opens, nowhere, trueFrom, labelOf, labelFrom, bracketFrom, startOf}
-use Rattle.rule_tokens.specs.declared.Number.{Number}
-use Rattle.rule_tokens.proofs.Byte.{Span, inside-at, byte-not, byte-step, digit-not}
-use Rattle.rule_tokens.proofs.NumberLaw.{Grown, further-grown}
+use Rattle.rule_numbers.specs.declared.Number.{Number}
+use Rattle.rule_numbers.proofs.Byte.{Span, inside-at, byte-not, byte-step, digit-not}
+use Rattle.rule_numbers.proofs.NumberLaw.{Grown, further-grown}
 
 module _ (s : List ℕ) (K : List Context) where
   -- what the machine, at an operand's start, makes of the text from place i on

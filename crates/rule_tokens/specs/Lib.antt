@@ -1,4 +1,3 @@
 pub mod Tags
-pub mod Number
 pub mod Start
 pub mod Sign

@@ -6,10 +6,11 @@ use lib.Dec.{eqb}
 use Rattle.tctl.specs.Kind.{Runs}
 use Rattle.rule_grammar.specs.Machine.{Sign, less, more, Join, conj, disj, until, Opening, pair, timed, mostOf}
 use Rattle.rule_bytes.specs.JoinNode.{numberOf}
-use Rattle.rule_tokens.specs.declared.Number.{Number}
+use Rattle.rule_numbers.specs.declared.Number.{Number}
 use Rattle.rule_tokens.specs.declared.Token.{Token}
-use Rattle.rule_tokens.specs.Tags.{joinTag, byteIs}
-use Rattle.rule_tokens.specs.Number.{numberFrom}
+use Rattle.rule_tokens.specs.Tags.{joinTag}
+use Rattle.rule_numbers.specs.Byte.{byteIs}
+use Rattle.rule_numbers.specs.Number.{numberFrom}
 use Rattle.rule_tokens.specs.Start.{token}
 
 -- what joins the operands and where the second one starts; where there is no sign, the first byte that none goes on from

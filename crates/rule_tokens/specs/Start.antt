@@ -5,10 +5,11 @@ use Prim.Native.Nat.{ℕ, _+_}
 use lib.Dec.{eqb}
 use Rattle.tctl.specs.Kind.{Runs, someRun, allRuns}
 use Rattle.rule_grammar.specs.Machine.{Opening, pair, timed}
-use Rattle.rule_tokens.specs.declared.Number.{Number}
+use Rattle.rule_numbers.specs.declared.Number.{Number}
 use Rattle.rule_tokens.specs.declared.Token.{Token}
-use Rattle.rule_tokens.specs.Tags.{openTag, byteIs}
-use Rattle.rule_tokens.specs.Number.{numberFrom}
+use Rattle.rule_tokens.specs.Tags.{openTag}
+use Rattle.rule_numbers.specs.Byte.{byteIs}
+use Rattle.rule_numbers.specs.Number.{numberFrom}
 
 -- what it is and where it ends; where there is none, the first byte that none goes on from
 pub data Start : Type 0 where

@@ -1,10 +1,6 @@
 -- A byte for what stands before an operand: 2 for "!"; for two operands that are open 3 for "(", 5 for "E(", 6 for
 -- "A(", their node's operation but for "|"; behind the sign 8 × the node's operation + its kind.
-use mathlib.Core.Bool.{Bool, _&&_}
-use mathlib.Core.List.{List}
 use Prim.Native.Nat.{ℕ, _+_, _*_}
-use lib.ListN.{length, getD}
-use lib.Dec.{eqb, ltb}
 use Rattle.tctl.specs.Kind.{Runs, someRun, allRuns}
 use Rattle.rule_grammar.specs.Machine.{Sign, Join, conj, disj, until, Opening, pair, timed, Context, negated, opened, joined, bound}
 use Rattle.rule_bytes.specs.RuleBytes
@@ -20,7 +16,3 @@ untilTag q s = 8 * openTag (timed q) + RuleBytes.kindOf (bound s 0)
 
 abbrev pub joinTag : Join → ℕ
 joinTag j = 8 * operationOf j + kindOf j
-
--- the byte b stands at place i of the text
-abbrev pub byteIs : List ℕ → ℕ → ℕ → Bool
-byteIs t i b = ltb i (length t) && eqb (getD t i 0) b

@@ -45,9 +45,18 @@ left c = c .before .before
 abbrev kept : tie.After-stand2 → tie.After-push-join
 kept c = c .before .before .before
 
+abbrev low-of : tie.After-push-join → tie.After-low-byte2
+low-of c = c .before .before
+
 -- or the second: the bracket
 abbrev second : tie.After-stands → tie.Else3
 second c = c .before
+
+abbrev tagged : tie.Else3 → tie.After-slice-known3
+tagged c = c .before .before
+
+abbrev asked : tie.After-put-join-arg2 → tie.After-stands
+asked c = c .before .before .before
 
 abbrev bracket : tie.After-put-join → tie.Then5
 bracket c = c .before .before .before
@@ -122,7 +131,7 @@ push-requires c κs =
 returns-4 : tie.Need-returns-4
 returns-4 c =
     let pushed = kept c in
-    let low = pushed .before .before in
+    let low = low-of pushed in
     let here = left low in
     let sign = signed here in
     let then = sign .before in
@@ -132,16 +141,16 @@ returns-4 c =
     signed-one _ _ _ _ (s .pre .0) (s .pre .1) (one .if1 .left) (else .if2 .left) (then .if3 .taken) _
     (sign .sign .ensures) (here .if4 .left) (low .low-byte2 .ensures) (pushed .push-join .ensures) (c .stand2 .ensures)
 
-deep : (c : tie.Else3) → 4 ≤ start (some (c .before .before)) .args .s .depth
+deep : (c : tie.Else3) → 4 ≤ start (some (tagged c)) .args .s .depth
 deep c =
-    let one = some (c .before .before) in
+    let one = some (tagged c) in
     let s = start one in
     four-deep _ _ _ _ (s .pre .0) (s .pre .1) (one .if1 .left) (c .before .if2 .left) (c .if3 .left)
 
 put-join-requires : tie.Need-put-join-requires
 put-join-requires c κs =
-    let three = second (c .before .before .before) in
-    let s = start (some (three .before .before)) in
+    let three = second (asked c) in
+    let s = start (some (tagged three)) in
     let w = s .pre .1 in (
       one-node _ _ _ _ (s .pre .0),
       omega (arith, deep three, w .few, w .read, w .room),
@@ -153,7 +162,7 @@ returns-5 c =
     let written = joined c in
     let five = bracket written in
     let three = second (five .before) in
-    let one = some (three .before .before) in
+    let one = some (tagged three) in
     let s = start one in
     closed-one _ _ _ _ (s .pre .0) (s .pre .1) (one .if1 .left) (three .before .if2 .left) (three .if3 .left)
     (sym (five .before .stands .ensures .0) ∙ five .if5 .taken) (written .put-join .ensures) (c .stand3 .ensures)
@@ -162,7 +171,7 @@ returns-6 : tie.Need-returns-6
 returns-6 c =
     let five = c .before in
     let three = second (five .before) in
-    let one = some (three .before .before) in
+    let one = some (tagged three) in
     let s = start one in
     open-one _ _ _ _ (s .pre .0) (s .pre .1) (one .if1 .left) (three .before .if2 .left) (three .if3 .left)
     (sym (five .before .stands .ensures .0) ∙ five .if5 .left) (c .stop2 .ensures)

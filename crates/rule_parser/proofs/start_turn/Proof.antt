@@ -8,7 +8,7 @@ use denote.Ref.{now}
 use borrow.Author.Needs.{needs}
 use Rattle.rule_tokens.specs.Start.{Start, startOf, startToken}
 use Rattle.rule_tokens.specs.declared.Token.{Token}
-use Rattle.rule_parser.specs.Open.{put}
+use Rattle.rule_stack.specs.Open.{put}
 use Rattle.rule_parser.specs.Standing.{spot, Starting, Within, Turned}
 use Rattle.rule_parser.proofs.StartTurn.{stopped, leaf, pushed, room-above}
 use Rattle.rule_parser.proofs.start_turn.Statement.{statement}

@@ -9,10 +9,11 @@ use borrow.Author.Tests.{eq-eqb, ne-eqb}
 use borrow.Author.Needs.{needs}
 use Rattle.tctl.specs.Kind.{Runs, someRun, allRuns}
 use Rattle.rule_grammar.specs.Machine.{Sign, less, more, until}
-use Rattle.rule_tokens.specs.Tags.{byteIs, untilTag, joinTag}
-use Rattle.rule_tokens.specs.Number.{numberFrom}
+use Rattle.rule_tokens.specs.Tags.{untilTag, joinTag}
+use Rattle.rule_numbers.specs.Byte.{byteIs}
+use Rattle.rule_numbers.specs.Number.{numberFrom}
 use Rattle.rule_tokens.specs.Sign.{limitOf, limitFrom}
-use Rattle.rule_tokens.proofs.Further.{number-ends}
+use Rattle.rule_numbers.proofs.Further.{number-ends}
 use Rattle.rule_tokens.proofs.equal_from.Statement.{statement}
 use Rattle.rule_tokens.proofs.equal_from.Tie as tie
 
@@ -20,8 +21,14 @@ use Rattle.rule_tokens.proofs.equal_from.Tie as tie
 abbrev start : tie.After-stands → tie.Start
 start c = c .before .before
 
-abbrev number : tie.After-struct-known → tie.After-number-from
-number c = c .before
+abbrev found : tie.Then1 → tie.After-stands
+found c = c .before
+
+abbrev number : tie.Else2 → tie.After-number-from
+number c = c .before .before
+
+abbrev no-number : tie.Then2 → tie.After-number-from
+no-number c = c .before .before
 
 equal : (c : tie.Then1) → byteIs (now (start (c .before) .args .text)) (start (c .before) .args .i) 61 ≡ true
 equal c = sym (c .before .stands .ensures .0) ∙ c .if1 .taken
@@ -31,8 +38,8 @@ number-requires c κs = (omega arith, omega arith, omega (arith, c .before .stan
 
 space-requires : tie.Need-space-from-requires
 space-requires c κs =
-    let n = number (c .before) in
-    let l = n .before .before .stands .ensures .1 (n .before .if1 .taken) in
+    let n = number c in
+    let l = found (n .before) .stands .ensures .1 (n .before .if1 .taken) in
     rw (n .number-from .ensures) (number-ends 65535 _ _ (omega (arith, l)))
 
 -- the tag of an until does not depend on c
@@ -49,13 +56,13 @@ either-most q more t i = refl
 
 returns : tie.Need-returns
 returns c q s e =
-    let n = number (c .before .before) in
+    let n = no-number (c .before) in
     c .none .ensures ∙
     rw (equal (n .before), either-most q s _ _, ← n .number-from .ensures, eq-eqb _ _ (c .before .if2 .taken))
 
 returns-2 : tie.Need-returns-2
 returns-2 c q s e =
-    let n = number (c .before .before) in
+    let n = number (c .before) in
     let v = n .number-from .result .value in
     c .space-from .ensures (until q s v) (e ∙ until-tag q s v) refl ∙
     rw (equal (n .before), either-most q s _ _, ← n .number-from .ensures, ne-eqb _ _ (c .before .if2 .left))

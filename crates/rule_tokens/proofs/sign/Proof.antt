@@ -6,7 +6,7 @@ use denote.Ref.{now}
 use borrow.Author.Needs.{needs}
 use Rattle.tctl.specs.Kind.{someRun, allRuns}
 use Rattle.rule_grammar.specs.Machine.{pair, timed}
-use Rattle.rule_tokens.specs.Tags.{byteIs}
+use Rattle.rule_numbers.specs.Byte.{byteIs}
 use Rattle.rule_tokens.specs.Sign.{signOf}
 use Rattle.rule_tokens.proofs.sign.Statement.{statement}
 use Rattle.rule_tokens.proofs.sign.Tie as tie
@@ -15,26 +15,42 @@ use Rattle.rule_tokens.proofs.sign.Tie as tie
 abbrev start : tie.After-stands → tie.Start
 start c = c .before .before
 
+abbrev spaced : tie.Else2 → tie.Then1
+spaced c = c .before
+
+abbrev pair-at : tie.After-pair-from → tie.Then2
+pair-at c = c .before
+
 abbrev timed-at : tie.After-stands2 → tie.Else2
 timed-at c = c .before
+
+abbrev bound-at : tie.After-bound-from → tie.After-stands2
+bound-at c = c .before .before
+
+abbrev none-at : tie.After-none → tie.After-stands2
+none-at c = c .before .before
 
 space : (c : tie.Then1) → byteIs (now (start (c .before) .args .text)) (start (c .before) .args .i) 32 ≡ true
 space c = sym (c .before .stands .ensures .0) ∙ c .if1 .taken
 
+pair-requires : tie.Need-pair-from-requires
+pair-requires c κs =
+    let then = c .before in omega (arith, then .before .stands .ensures .1 (then .if1 .taken))
+
 returns : tie.Need-returns
 unfolding signOf
-returns c pair e = c .pair-from .ensures ∙ rw (space (c .before .before))
+returns c pair e = c .pair-from .ensures ∙ rw (space (pair-at c .before))
 returns c (timed someRun) e = absurd (let z : ⊥ = omega (arith, e, c .before .if2 .taken) in z)
 returns c (timed allRuns) e = absurd (let z : ⊥ = omega (arith, e, c .before .if2 .taken) in z)
 
 bound-requires : tie.Need-bound-from-requires
 bound-requires c κs =
-    let here = start (timed-at (c .before) .before .before) in
+    let here = start (spaced (timed-at (c .before)) .before) in
     (omega (arith, c .before .stands2 .ensures .1 (c .if3 .taken)), here .pre .1)
 
 returns-2 : tie.Need-returns-2
 unfolding signOf
-returns-2 c pair e = absurd (let z : ⊥ = omega (arith, e, timed-at (c .before .before) .if2 .left) in z)
+returns-2 c pair e = absurd (let z : ⊥ = omega (arith, e, timed-at (bound-at c) .if2 .left) in z)
 returns-2 c (timed q) e =
     let then = c .before in
     c .bound-from .ensures q e ∙
@@ -42,7 +58,7 @@ returns-2 c (timed q) e =
 
 returns-3 : tie.Need-returns-3
 unfolding signOf
-returns-3 c pair e = absurd (let z : ⊥ = omega (arith, e, timed-at (c .before .before) .if2 .left) in z)
+returns-3 c pair e = absurd (let z : ⊥ = omega (arith, e, timed-at (none-at c) .if2 .left) in z)
 returns-3 c (timed q) e =
     let else = c .before in
     c .none .ensures ∙
@@ -57,6 +73,6 @@ pub sign-spec : {M : Type 1} → statement M
 sign-spec =
     tie.close
     (tie.spec (λ c κs. search needs) (λ c. search needs)
-    (λ c κs. omega (arith, c .before .before .stands .ensures .1 (c .before .if1 .taken))) returns (λ c. search needs)
+    pair-requires returns (λ c. search needs)
     (λ c κs. search needs) (λ c. search needs) bound-requires returns-2 (λ c κs. search needs) returns-3
     (λ c κs. search needs) returns-4)

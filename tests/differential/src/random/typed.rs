@@ -19,7 +19,7 @@ fn nodes(rng: &mut Rng) -> Option<usize> {
         2..=6 => Some(rng.within(1, 9)),
         7 => Some(rng.within(10, 64)),
         8 => Some(rng.within(60, 70)),
-        _ => Some(rng.within(65, 200)),
+        _ => Some(rng.within(65, 110)),
     }
 }
 

@@ -1,0 +1,4 @@
+pub mod Pieces
+pub mod Fields
+pub mod LeftFirst
+pub mod LeftFirstWritten

@@ -1,0 +1,1 @@
+// Rules whose nodes stand operands before their node, left first: specs/ and proofs/ alone, no code.

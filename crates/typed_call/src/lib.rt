@@ -1,0 +1,176 @@
+// The program desk_rule: a text in; desk.rul out, or what is wrong with the text.
+ghost use mathlib.Core.Path.{_≡_};
+ghost use Prim.Native.Nat.{_+_, _≤_};
+ghost use lib.ListN.{length};
+ghost use Rattle.append.specs.Piece.{Room, Appended, AtFront};
+ghost use Rattle.io.specs.Counts.{Counts};
+ghost use Rattle.typed_call.specs.Refused.{shownByte, spaces, shownText, caretLine, refusedText};
+ghost use Rattle.typed_call.specs.Answer.{inputRead, ruleRoom, typed, Answers};
+use outcome::Outcome;
+
+// How many bytes of standard input are read.
+const INPUT: usize = 4098;
+
+// The bytes of the longest rule.
+const RULE: usize = 519;
+
+// The bytes of the longest text that is printed: lines of 33, 4,099 and 4,098.
+const TEXT: usize = 8230;
+
+// How many bytes of the rule were written, and how many of the text that is printed.
+pub struct Typed {
+    pub written: usize,
+    pub printed: usize,
+}
+
+// The text of an input: a last newline is not part of it.
+fn trimmed(input: &[u8]) -> &[u8]
+    ensures { λ r. ⌜ now r ≡ typed (now (input .entry)) ⌝ }
+{
+    if input.len() == 0 {
+        return input;
+    }
+    let last = input.len() - 1;
+    if input[last] == b'\n' {
+        return &input[..last];
+    }
+    input
+}
+
+fn shown_byte(byte: u8) -> u8
+    ensures { λ r. ⌜ r ≡ shownByte byte ⌝ }
+{
+    if byte < b' ' || byte == 127 {
+        return b'?';
+    }
+    byte
+}
+
+fn put_shown(text: &[u8], at: usize, out: &mut [u8]) -> usize
+    requires { ⌜ Room at (shownText (now text)) (now out) ⌝ }
+    ensures { λ r. ⌜ Appended at (shownText (now (text .entry))) r (now (out .entry)) (now (out .exit)) ⌝ }
+{
+    let mut end = at;
+    let mut i = 0;
+    while i < text.len() {
+        end = append::put(shown_byte(text[i]), end, out);
+        i += 1;
+    }
+    end
+}
+
+fn put_spaces(count: usize, at: usize, out: &mut [u8]) -> usize
+    requires { ⌜ Room at (spaces count) (now out) ⌝ }
+    ensures { λ r. ⌜ Appended at (spaces count) r (now (out .entry)) (now (out .exit)) ⌝ }
+{
+    let mut end = at;
+    let mut i = 0;
+    while i < count {
+        end = append::put(b' ', end, out);
+        i += 1;
+    }
+    end
+}
+
+fn put_caret(place: usize, at: usize, out: &mut [u8]) -> usize
+    requires { ⌜ Room at (caretLine place) (now out) ⌝ }
+    ensures { λ r. ⌜ Appended at (caretLine place) r (now (out .entry)) (now (out .exit)) ⌝ }
+{
+    let spaced = put_spaces(place, at, out);
+    append::put_word(b"^\n", spaced, out)
+}
+
+// What is printed of a refusal.
+fn put_refusal(refused: Outcome, text: &[u8], out: &mut [u8]) -> usize
+    requires { ⌜ 33 + length (now text) + 1 + refused .place + 2 ≤ length (now out) ⌝ }
+    ensures { λ r. ⌜ AtFront (refusedText (refused .number) (refused .place) (now (text .entry))) r
+        (now (out .entry)) (now (out .exit)) ⌝ }
+{
+    let lined = listing::refuse(refused.number, refused.place, out);
+    let shown = put_shown(text, lined, out);
+    let ended = append::put(b'\n', shown, out);
+    put_caret(refused.place as usize, ended, out)
+}
+
+// The rule of an input, or the text that is printed of its refusal.
+fn answer(input: &[u8], rule: &mut [u8], out: &mut [u8]) -> Typed
+    requires { ⌜ (length (now rule) ≡ ruleRoom) × (33 + length (now input) + 1 + 4096 + 2 ≤ length (now out)) ⌝ }
+    ensures { λ r. ⌜ Answers (now (input .entry)) (now (rule .entry)) (now (out .entry)) r
+        (now (rule .exit)) (now (out .exit)) ⌝ }
+{
+    let text = trimmed(input);
+    let read = call_read_rule::read_rule(text, rule);
+    let refused = read.outcome;
+    let written = read.written;
+    if refused.number == 0 {
+        return Typed {
+            written,
+            printed: 0,
+        };
+    }
+    let printed = put_refusal(refused, text, out);
+    Typed { written, printed }
+}
+
+// The first bytes of standard input.
+fn read_input(space: &mut [u8]) -> usize
+    requires { ⌜ length (now space) ≡ inputRead ⌝ }
+    ensures { λ r. ⌜ Counts r (now (space .exit)) ⌝ }
+{
+    io::read_full(libc::STDIN_FILENO, space)
+}
+
+// A new file with all of the rule, and whether it is there.
+fn write_new(rule: &[u8]) -> bool {
+    os::unlink(b"desk.rul.new");
+    let file = os::create(b"desk.rul.new");
+    if file < 0 {
+        return false;
+    }
+    let whole = io::write_all(file, rule);
+    let closed = libc::close(file);
+    whole && closed == 0
+}
+
+// The rule becomes desk.rul, which stays as it is until all of the new file is there.
+fn save(rule: &[u8]) {
+    if write_new(rule) && os::rename(b"desk.rul.new", b"desk.rul") == 0 {
+        return;
+    }
+    os::unlink(b"desk.rul.new");
+    io::write_all(
+        libc::STDERR_FILENO,
+        b"desk_rule: desk.rul can't be written\n",
+    );
+}
+
+// Reads a text, and writes desk.rul or prints what is wrong with it.
+fn answer_input() {
+    let mut input = [0; INPUT];
+    let mut rule = [0; RULE];
+    let mut text = [0; TEXT];
+    let size = read_input(&mut input);
+    let typed = answer(&input[..size], &mut rule, &mut text);
+    let written = typed.written;
+    let printed = typed.printed;
+    io::write_all(libc::STDOUT_FILENO, &text[..printed]);
+    if written != 0 {
+        save(&rule[..written]);
+    }
+}
+
+fn print_usage() {
+    io::write_all(
+        libc::STDERR_FILENO,
+        b"usage: desk_rule\nIt reads a rule's text from standard input and writes desk.rul here. One last newline is not part of the text.\n",
+    );
+}
+
+// No argument but the program's own name.
+pub fn run() {
+    if os::arg_count() != 1 {
+        print_usage();
+        return;
+    }
+    answer_input();
+}
