@@ -1,2 +1,3 @@
 pub mod TextTold
 pub mod RoundTrips
+pub mod SmallTexts

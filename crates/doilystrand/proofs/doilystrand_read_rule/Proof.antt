@@ -1,0 +1,14 @@
+-- As the call itself.
+use borrow.Author.Needs.{needs}
+use Rattle.doilystrand.proofs.doilystrand_read_rule.Statement.{statement}
+use Rattle.doilystrand.proofs.doilystrand_read_rule.Tie as tie
+
+-- where the call was made
+abbrev called : tie.After-slice-known2 → tie.After-read-rule
+called c = c .before .before
+
+returns : tie.Need-returns
+returns c = called c .read-rule .ensures
+
+pub doilystrand-read-rule-spec : {M : Type 1} → statement M
+doilystrand-read-rule-spec = tie.close (tie.spec (λ c κs. search needs) (λ c. search needs) returns)
