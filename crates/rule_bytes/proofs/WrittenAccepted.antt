@@ -18,6 +18,7 @@ use Rattle.rule_grammar.specs.Machine.{less, more, Join, conj, disj, until}
 use Rattle.rule_grammar.specs.Grammar.{InRange}
 use Rattle.rule_grammar.specs.Machine.{join}
 use Rattle.head.specs.Head.{version, statedLength}
+use Rattle.rule_grammar.proofs.Seen.{join-range}
 use Rattle.rule.specs.Bytes.{nodeCount, nodeWords}
 use Rattle.rule.specs.Form.{formOf}
 use Rattle.rule.specs.Refusals.{malformed, notLower, wrongKind, wrongA, usesIn, uses, ruleTable, ruleRefusal}
@@ -43,10 +44,10 @@ module _ (s : List ℕ) (n : ℕ) (j : Join) (f g : Formula) (h : Sits s n (node
   from-right : Sits s (n + nodes f) (right ++ last)
   from-right = sits-second (nodes f) (nodesFrom n f) (right ++ last) (nodes-length f n) all-three
 
-  sits-left : Sits s n (nodesFrom n f)
+  pub sits-left : Sits s n (nodesFrom n f)
   sits-left = sits-first (nodesFrom n f) (right ++ last) all-three
 
-  sits-right : Sits s (n + nodes f) (nodesFrom (n + nodes f) g)
+  pub sits-right : Sits s (n + nodes f) (nodesFrom (n + nodes f) g)
   sits-right = sits-first right last from-right
 
   abbrev joinWords : NodeWords
@@ -59,7 +60,7 @@ module _ (s : List ℕ) (n : ℕ) (j : Join) (f g : Formula) (h : Sits s n (node
         c = numberOf j;
       }
 
-  sits-node : nodeWords s (n + nodes f + nodes g) ≡ joinWords
+  pub sits-node : nodeWords s (n + nodes f + nodes g) ≡ joinWords
   sits-node =
       node-sits (operationOf j) (kindOf j) (n + nodes f - 1) (n + nodes f + nodes g - 1) (numberOf j)
       (sits-second (nodes g) right last (nodes-length g (n + nodes f)) from-right)
@@ -80,14 +81,6 @@ join-formed (until someRun less c) t a b h k = record { formed = refl; lower = r
 join-formed (until someRun more c) t a b h k = record { formed = refl; lower = rw (lt-leb t a h, lt-leb t b k) }
 join-formed (until allRuns less c) t a b h k = record { formed = refl; lower = rw (lt-leb t a h, lt-leb t b k) }
 join-formed (until allRuns more c) t a b h k = record { formed = refl; lower = rw (lt-leb t a h, lt-leb t b k) }
-
-join-range : (j : Join) (f g : Formula) → InRange (join j f g) → InRange f × InRange g
-join-range conj f g h = h
-join-range disj f g h = h
-join-range (until someRun less c) f g h = (h .1, h .2)
-join-range (until someRun more c) f g h = (h .1, h .2)
-join-range (until allRuns less c) f g h = (h .1, h .2)
-join-range (until allRuns more c) f g h = (h .1, h .2)
 
 abbrev AllFormed : Formula → Type 0
 AllFormed f =
@@ -114,7 +107,7 @@ all-formed =
     t l m (decLt t (n + nodes f)))
     λ j f g p q r s n h t l m.
     let size = join-nodes j f g in
-    turn-join j f g p q (join-range j f g r) s n h t l (omega arith) (decLt t (n + nodes f))
+    turn-join j f g p q (join-range j f g r .1, join-range j f g r .2) s n h t l (omega arith) (decLt t (n + nodes f))
     (decLt t (n + nodes f + nodes g))
   where
     turn-not :

@@ -94,6 +94,14 @@ join-live (until someRun more c) f g h p q = (h, p, q)
 join-live (until allRuns less c) f g h p q = (h, p, q)
 join-live (until allRuns more c) f g h p q = (h, p, q)
 
+pub join-range : (j : Join) (f g : Formula) → InRange (join j f g) → JoinLive j × InRange f × InRange g
+join-range conj f g h = (tt, h .0, h .1)
+join-range disj f g h = (tt, h .0, h .1)
+join-range (until someRun less c) f g h = h
+join-range (until someRun more c) f g h = h
+join-range (until allRuns less c) f g h = h
+join-range (until allRuns more c) f g h = h
+
 pub join-text : (j : Join) (f g : Formula) → text (join j f g) ≡ joinText j (text f) (text g)
 unfolding text
 join-text conj f g = refl

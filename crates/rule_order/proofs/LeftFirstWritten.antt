@@ -1,7 +1,7 @@
 -- Every rule that is written for a formula has its operands before their node, left first.
-use mathlib.Core.Path.{_≡_, ap, subst}
+use mathlib.Core.Path.{_≡_, ap}
 use mathlib.Core.Logic.{by-cases}
-use mathlib.Core.List.{List, _++_}
+use mathlib.Core.List.{List}
 use Prim.Native.Nat.{ℕ, suc, _+_, _-_, _≤_, _<_}
 use native.Mathlib.Decide.{decLt}
 use native.Mathlib.Omega.{arith}
@@ -12,10 +12,11 @@ use Rattle.rule.specs.Bytes.{nodeCount, nodeWords}
 use Rattle.rule.specs.Formula.{formulaAt}
 use Rattle.rule.specs.declared.NodeWords.{NodeWords}
 use Rattle.rule_bytes.specs.RuleBytes.{nodes, nodeBytes, nodesFrom, ruleBytes}
-use Rattle.rule_bytes.specs.JoinNode.{operationOf, kindOf, numberOf}
+use Rattle.rule_bytes.specs.JoinNode.{operationOf}
 use Rattle.rule_bytes.proofs.Sits.{Sits, sits-first, sits-second, node-sits}
-use Rattle.rule_bytes.proofs.Tree.{some-nodes, join-nodes, joinBytes, join-bytes, formula-induction, nodes-length, stands}
+use Rattle.rule_bytes.proofs.Tree.{some-nodes, join-nodes, formula-induction, nodes-length, stands}
 use Rattle.rule_bytes.proofs.Tree.{count-written, sits-written}
+use Rattle.rule_bytes.proofs.WrittenAccepted.{sits-left, sits-right, sits-node}
 use Rattle.rule_order.specs.LeftFirst.{LeftFirst}
 
 -- the order at node t, which has these words
@@ -58,17 +59,11 @@ join-ordered j f g p q s n h t l m =
     let two = join-two j in
     let mid = n + nodes f in
     let last = mid + nodes g in
-    let right = nodesFrom mid g in
-    let own = joinBytes j n (nodes f) (nodes g) in
-    let all = subst (Sits s n) (join-bytes j n f g) h in
-    let rest = sits-second (nodes f) (nodesFrom n f) (right ++ own) (nodes-length f n) all in
-    let second = sits-first right own rest in
-    by-cases (decLt t mid) (p s n (sits-first (nodesFrom n f) (right ++ own) all) t l) λ a.
+    let second = sits-right s n j f g h in
+    by-cases (decLt t mid) (p s n (sits-left s n j f g h) t l) λ a.
     by-cases (decLt t last) (q s mid second t (omega arith)) λ b.
     let at-b = ap nodes (stands g s mid second (suc (last - 1)) (omega arith)) in
-    at-node s t last (omega arith)
-    (node-sits (operationOf j) (kindOf j) (mid - 1) (last - 1) (numberOf j)
-    (sits-second (nodes g) right own (nodes-length g mid) rest)) (omega arith)
+    at-node s t last (omega arith) (sits-node s n j f g h) (omega arith)
 
 all-ordered : (f : Formula) → AllOrdered f
 unfolding nodesFrom

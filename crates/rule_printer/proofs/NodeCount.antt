@@ -17,7 +17,7 @@ use Rattle.rule.specs.Bytes.{nodeCount, nodeWords}
 use Rattle.rule.specs.Formula.{operation, formulaAt, formulaOf}
 use Rattle.rule.specs.Refusals.{names, usesIn, uses}
 use Rattle.rule.specs.declared.NodeWords.{NodeWords}
-use Rattle.rule.proofs.Operation.{has-operand}
+use Rattle.rule.proofs.Operation.{uses-by}
 use Rattle.rule.proofs.Accepted.{AcceptedRule, lower-a, lower-b}
 use Rattle.rule.proofs.Tree.{formula-at}
 use Rattle.rule_bytes.specs.RuleBytes.{nodes}
@@ -53,13 +53,6 @@ names-sum :
     sum (λ u. names used x u * g u) m ≡ cond used (g x) 0
 names-sum true x g m h = sum-one x g m (h refl)
 names-sum false x g m h = sum-same (λ u. 0 * g u) (λ u. 0) m (λ u l. zero-mul (g u)) ∙ sum-zero m
-
--- how often a node names u, by its operation
-uses-by :
-    (u : ℕ) (w : NodeWords) → let op = w .operation in
-    usesIn u w ≡ names (leb 2 op) (w .a) u + names (leb 3 op) (w .b) u
-unfolding usesIn
-uses-by u w = rw (has-operand 2 (w .operation) (omega arith), has-operand 3 (w .operation) (omega arith)) refl
 
 module _ {s : List ℕ} (acc : AcceptedRule s) where
   abbrev k : ℕ

@@ -10,7 +10,7 @@ use Rattle.decimal.proofs.Decimal.{decimal-size}
 use Rattle.rule_grammar.specs.Text.{text}
 use Rattle.rule_grammar.specs.Grammar.{InRange}
 use Rattle.rule_grammar.specs.Machine.{less, more, Join, conj, disj, until, openingOf, opening, sign, joinText, join}
-use Rattle.rule_grammar.proofs.Seen.{JoinLive, join-text}
+use Rattle.rule_grammar.proofs.Seen.{JoinLive, join-text, join-range}
 use Rattle.rule.specs.Formula.{formulaOf}
 use Rattle.rule.specs.Refusals.{ruleRefusal}
 use Rattle.rule.proofs.Accepted.{accepted}
@@ -18,14 +18,6 @@ use Rattle.rule_bytes.specs.RuleBytes.{nodes}
 use Rattle.rule_bytes.proofs.Tree.{formula-induction, join-nodes}
 use Rattle.rule_bytes.proofs.RoundTrip.{accepted-range}
 use Rattle.rule_printer.proofs.NodeCount.{nodes-counted}
-
-join-range : (j : Join) (f g : Formula) → InRange (join j f g) → JoinLive j × InRange f × InRange g
-join-range conj f g h = (tt, h .0, h .1)
-join-range disj f g h = (tt, h .0, h .1)
-join-range (until someRun less c) f g h = h
-join-range (until someRun more c) f g h = h
-join-range (until allRuns less c) f g h = h
-join-range (until allRuns more c) f g h = h
 
 -- before two operands and between them stand at most eleven bytes: `E(`, a space, `U<=` and five digits
 join-size : (j : Join) → JoinLive j → length (opening (openingOf j)) + length (sign j) ≤ 11

@@ -10,8 +10,8 @@ use borrow.Author.Tests.{leb-true, leb-false, eqb-true, eqb-false, ne-eqb}
 use Rattle.base.specs.Sum.{sum}
 use Rattle.base.proofs.Sum.{sum-same, sum-add, sum-zero, sum-cond, sum-one}
 use Rattle.rule.specs.Bytes.{nodeCount, nodeWords}
-use Rattle.rule.specs.Refusals.{uses, usesIn, names}
-use Rattle.rule.proofs.Operation.{has-operand}
+use Rattle.rule.specs.Refusals.{uses, usesIn}
+use Rattle.rule.proofs.Operation.{uses-by}
 use Rattle.rule.proofs.Accepted.{AcceptedRule, lower-a, lower-b}
 use Rattle.settle.specs.TimesSettled.{timesSettled}
 use Rattle.settle.proofs.TimesSettled.{times-settled-at}
@@ -33,16 +33,6 @@ module _ {s : List ℕ} (acc : AcceptedRule s) where
   -- how often node v names u as an operand
   abbrev named : ℕ → ℕ → ℕ
   named u v = usesIn u (nodeWords s v)
-
-  -- by the operation
-  named-at :
-      (u v : ℕ) →
-      let w = nodeWords s v in
-      named u v ≡ names (leb 2 (w .operation)) (w .a) u + names (leb 3 (w .operation)) (w .b) u
-  unfolding usesIn
-  named-at u v =
-      let w = nodeWords s v in
-      rw (has-operand 2 (w .operation) (omega arith), has-operand 3 (w .operation) (omega arith)) refl
 
   -- Settling t settles u as itself, or through a node v that it settles and that names u: v is t, or an operand of t
   -- leads to it.
@@ -69,7 +59,7 @@ module _ {s : List ℕ} (acc : AcceptedRule s) where
       let b = operand-adds (leb 3 (w .operation)) (eqb (w .b) u) (timesSettled s (w .b) u)
       (sum (λ v. timesSettled s (w .b) v * g v) k)
       (λ e. let i = lower-b acc t l (leb-true 3 _ e) in flow d (w .b) u (omega arith) (omega arith)) in
-      omega (arith, times-settled-at acc t u l, terms, parts, first, own, left, right, a, b, named-at u t)
+      omega (arith, times-settled-at acc t u l, terms, parts, first, own, left, right, a, b, uses-by u (nodeWords s t))
 
   -- an operand is lower than the node that names it
   unnamed : (u v : ℕ) → v ≤ u → v < k → named u v ≡ 0
@@ -79,7 +69,7 @@ module _ {s : List ℕ} (acc : AcceptedRule s) where
       let i = lower-a acc v l (leb-true 2 _ e) in ne-eqb (w .a) u (λ f. absurd (let z : ⊥ = omega arith in z))) in
       let y = not-both (leb 3 (w .operation)) (eqb (w .b) u) (λ e.
       let i = lower-b acc v l (leb-true 3 _ e) in ne-eqb (w .b) u (λ f. absurd (let z : ⊥ = omega arith in z))) in
-      omega (arith, named-at u v, x, y)
+      omega (arith, uses-by u w, x, y)
 
   uses-sum : (u j : ℕ) → uses s j u ≡ sum (named u) j
   unfolding uses

@@ -6,24 +6,23 @@ ghost use Rattle.append.specs.Piece.{Room, Appended, AtFront};
 ghost use Rattle.io.specs.Counts.{Counts};
 ghost use Rattle.typed_call.specs.Refused.{shownByte, spaces, shownText, caretLine, refusedText};
 ghost use Rattle.typed_call.specs.Answer.{inputRead, ruleRoom, typed, Answers};
-use outcome::Outcome;
 
-// How many bytes of standard input are read.
+// How many bytes of standard input are read: one more than the longest text and its newline have.
 const INPUT: usize = 4098;
 
 // The bytes of the longest rule.
 const RULE: usize = 519;
 
-// The bytes of the longest text that is printed: lines of 33, 4,099 and 4,098.
+// The bytes of the longest text that is printed: lines of 33, 4,099 and 4,098 bytes.
 const TEXT: usize = 8230;
 
 // How many bytes of the rule were written, and how many of the text that is printed.
-pub struct Typed {
-    pub written: usize,
-    pub printed: usize,
+struct Typed {
+    written: usize,
+    printed: usize,
 }
 
-// The text of an input: a last newline is not part of it.
+// The text of an input: all of it but one last newline.
 fn trimmed(input: &[u8]) -> &[u8]
     ensures { λ r. ⌜ now r ≡ typed (now (input .entry)) ⌝ }
 {
@@ -81,15 +80,14 @@ fn put_caret(place: usize, at: usize, out: &mut [u8]) -> usize
 }
 
 // What is printed of a refusal.
-fn put_refusal(refused: Outcome, text: &[u8], out: &mut [u8]) -> usize
-    requires { ⌜ 33 + length (now text) + 1 + refused .place + 2 ≤ length (now out) ⌝ }
-    ensures { λ r. ⌜ AtFront (refusedText (refused .number) (refused .place) (now (text .entry))) r
-        (now (out .entry)) (now (out .exit)) ⌝ }
+fn put_refusal(number: u32, place: u32, text: &[u8], out: &mut [u8]) -> usize
+    requires { ⌜ 33 + length (now text) + 1 + place + 2 ≤ length (now out) ⌝ }
+    ensures { λ r. ⌜ AtFront (refusedText number place (now (text .entry))) r (now (out .entry)) (now (out .exit)) ⌝ }
 {
-    let lined = listing::refuse(refused.number, refused.place, out);
+    let lined = listing::refuse(number, place, out);
     let shown = put_shown(text, lined, out);
     let ended = append::put(b'\n', shown, out);
-    put_caret(refused.place as usize, ended, out)
+    put_caret(place as usize, ended, out)
 }
 
 // The rule of an input, or the text that is printed of its refusal.
@@ -108,7 +106,7 @@ fn answer(input: &[u8], rule: &mut [u8], out: &mut [u8]) -> Typed
             printed: 0,
         };
     }
-    let printed = put_refusal(refused, text, out);
+    let printed = put_refusal(refused.number, refused.place, text, out);
     Typed { written, printed }
 }
 
@@ -120,7 +118,7 @@ fn read_input(space: &mut [u8]) -> usize
     io::read_full(libc::STDIN_FILENO, space)
 }
 
-// A new file with all of the rule, and whether it is there.
+// Whether all of the rule went into a new file.
 fn write_new(rule: &[u8]) -> bool {
     os::unlink(b"desk.rul.new");
     let file = os::create(b"desk.rul.new");
@@ -132,7 +130,7 @@ fn write_new(rule: &[u8]) -> bool {
     whole && closed == 0
 }
 
-// The rule becomes desk.rul, which stays as it is until all of the new file is there.
+// The rule becomes desk.rul, which stays as it was if that fails: the new file takes its name only once it is whole.
 fn save(rule: &[u8]) {
     if write_new(rule) && os::rename(b"desk.rul.new", b"desk.rul") == 0 {
         return;
@@ -144,7 +142,7 @@ fn save(rule: &[u8]) {
     );
 }
 
-// Reads a text, and writes desk.rul or prints what is wrong with it.
+// Reads a text, and writes desk.rul or prints what is wrong with the text.
 fn answer_input() {
     let mut input = [0; INPUT];
     let mut rule = [0; RULE];
@@ -162,7 +160,7 @@ fn answer_input() {
 fn print_usage() {
     io::write_all(
         libc::STDERR_FILENO,
-        b"usage: desk_rule\nIt reads a rule's text from standard input and writes desk.rul here. One last newline is not part of the text.\n",
+        b"usage: desk_rule\nIt reads a rule's text from standard input and writes desk.rul here.\nOne last newline is not part of the text.\n",
     );
 }
 

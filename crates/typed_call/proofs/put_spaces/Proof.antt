@@ -1,53 +1,57 @@
+-- Invariant: the first i spaces are there.
+use mathlib.Core.Path.{_≡_, ap}
+use Prim.Native.Nat.{_≤_, _-_}
+use native.Mathlib.Omega.{arith}
+use Rattle.append.specs.Piece.{Appended}
+use Rattle.append.proofs.Append.{appended-size, appended-text}
+use Rattle.listing.proofs.Joined.{joined-none, joined-more, joined-room}
+use Rattle.typed_call.specs.Refused.{spaces}
 use Rattle.typed_call.proofs.put_spaces.Statement.{statement}
 use Rattle.typed_call.proofs.put_spaces.Tie as tie
-use Rattle.typed_call.proofs.put_spaces.Reads as reads
-use Rattle.typed_call.proofs.put_spaces.Lts as lts
-use Rattle.append.proofs.put.Reads as put-reads
 
 abbrev Inv-loop : tie.InvT-loop
-Inv-loop count at out₀ end₀ i₀ out end i = ?
+Inv-loop count at out₀ end₀ i₀ out end i = (i ≤ count) × Appended at (spaces i) end out₀ out
 
 abbrev μ-loop : tie.MeasureT-loop
-μ-loop count at out₀ end₀ i₀ out end i = ?
+μ-loop count at out₀ end₀ i₀ out end i = count - i
 
--- src/lib.rt:68:5
+-- the start, the loop's stop, and where a space was written
+abbrev start : tie.At-loop Inv-loop μ-loop → tie.Start Inv-loop μ-loop
+start c = c .before .before
+
+abbrev loop : tie.After-put-arg Inv-loop μ-loop → tie.At-loop Inv-loop μ-loop
+loop c = c .before .before
+
+abbrev put : tie.After-slice-known2 Inv-loop μ-loop → tie.After-put Inv-loop μ-loop
+put c = c .before .before
+
 loop-holds : tie.Need-loop-holds Inv-loop μ-loop
-loop-holds c = ?
+unfolding spaces
+loop-holds c = (omega arith, joined-none _)
 
--- src/lib.rt:69:9
 put-requires : tie.Need-put-requires Inv-loop μ-loop
-put-requires c κs = ?
+unfolding spaces
+put-requires c κs =
+    let at-loop = loop c in
+    let s = start at-loop in
+    joined-room _ (at-loop .loop .i) (s .args .count) (at-loop .loop .inv .1) (c .before .loop-test .taken) (s .pre)
 
--- src/lib.rt:70:9
-add-i : tie.Need-add-i Inv-loop μ-loop
-add-i c = ?
-
--- src/lib.rt:68:5
-loop-less : tie.Need-loop-less Inv-loop μ-loop
-loop-less c = ?
-
--- src/lib.rt:68:5
 loop-again : tie.Need-loop-again Inv-loop μ-loop
-loop-again c = ?
+unfolding spaces
+loop-again c =
+    let at-loop = loop (put c .before) in
+    (omega arith, joined-more _ (at-loop .loop .i) (at-loop .loop .inv .1) (put c .put .ensures))
 
--- src/lib.rt:62:1
 same-length : tie.Need-same-length Inv-loop μ-loop
-same-length c = ?
+same-length c = appended-size (c .before .loop .inv .1)
 
--- src/lib.rt:62:1
 returns : tie.Need-returns Inv-loop μ-loop
-returns c = ?
+returns c =
+    let e : c .before .loop .i ≡ start (c .before) .args .count = omega arith in
+    appended-text (ap spaces e) (c .before .loop .inv .1)
 
 pub put-spaces-spec : {M : Type 1} → statement M
 put-spaces-spec =
     tie.close
-    (tie.spec
-    Inv-loop
-    μ-loop
-    loop-holds
-    put-requires
-    add-i
-    loop-less
-    loop-again
-    same-length
+    (tie.spec Inv-loop μ-loop loop-holds put-requires (λ c. omega arith) (λ c. omega arith) loop-again same-length
     returns)

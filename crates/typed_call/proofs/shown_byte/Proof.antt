@@ -1,15 +1,20 @@
+-- A control byte by either test, or a byte by neither.
+use mathlib.Core.Logic.{⊎-elim}
+use native.Mathlib.Omega.{arith}
+use borrow.Author.Tests.{lt-ltb, le-ltb}
 use Rattle.typed_call.proofs.shown_byte.Statement.{statement}
 use Rattle.typed_call.proofs.shown_byte.Tie as tie
-use Rattle.typed_call.proofs.shown_byte.Reads as reads
-use Rattle.typed_call.proofs.shown_byte.Lts as lts
 
--- src/lib.rt:44:9
 returns : tie.Need-returns
-returns c = ?
+returns c =
+    let byte = c .before .args .byte in
+    ⊎-elim (λ w. rw (lt-ltb byte 32 (omega arith))) (λ w. rw (le-ltb byte 32 (omega arith), w .1 .taken))
+    (c .if1 .came)
 
--- src/lib.rt:40:1
 returns-2 : tie.Need-returns-2
-returns-2 c = ?
+returns-2 c =
+    let first = c .before in
+    rw (le-ltb (first .before .args .byte) 32 (omega arith), c .if2 .left)
 
 pub shown-byte-spec : {M : Type 1} → statement M
 shown-byte-spec = tie.close (tie.spec returns returns-2)

@@ -1,0 +1,51 @@
+// The program desk_text: a rule's file in, its text out.
+ghost use Prim.Native.Nat.{_≤_};
+ghost use lib.ListN.{length};
+ghost use Rattle.append.specs.Piece.{AtFront};
+ghost use Rattle.text_call.specs.Printed.{printedText};
+
+// The bytes of the longest text, and of its line.
+const LONGEST: usize = 532;
+
+const LINE: usize = 533;
+
+// The line that is printed of a rule, put into out.
+fn report_text(rule: &[u8], out: &mut [u8]) -> usize
+    requires { ⌜ 533 ≤ length (now out) ⌝ }
+    ensures { λ r. ⌜ AtFront (printedText (now (rule .entry))) r (now (out .entry)) (now (out .exit)) ⌝ }
+{
+    let mut text = [0; LONGEST];
+    let answer = call_write_rule::write_rule(rule, &mut text);
+    let outcome = answer.outcome;
+    if outcome.number != 0 {
+        return listing::refuse(outcome.number, outcome.place, out);
+    }
+    let written = answer.written;
+    let end = append::put_word(&text[..written], 0, out);
+    append::put(b'\n', end, out)
+}
+
+// Reads desk.rul as the desk program does, and prints the line.
+fn print_text() {
+    let mut rule = [0; desk_call::RULE];
+    let size = desk_call::read(b"desk.rul", &mut rule);
+    let mut line = [0; LINE];
+    let printed = report_text(&rule[..size], &mut line);
+    io::write_all(libc::STDOUT_FILENO, &line[..printed]);
+}
+
+fn print_usage() {
+    io::write_all(
+        libc::STDERR_FILENO,
+        b"usage: desk_text\nIt reads desk.rul here, and prints the rule's text.\n",
+    );
+}
+
+// No argument but the program's own name.
+pub fn run() {
+    if os::arg_count() != 1 {
+        print_usage();
+        return;
+    }
+    print_text();
+}

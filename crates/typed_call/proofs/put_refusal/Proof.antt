@@ -1,0 +1,98 @@
+-- The four parts one after another.
+use mathlib.Core.Path.{_≡_, sym, ap, _∙_}
+use mathlib.Core.List.{List, _++_}
+use Prim.Native.Nat.{ℕ, _+_}
+use native.Mathlib.Omega.{arith}
+use borrow.Author.Needs.{needs}
+use denote.Ref.{now}
+use lib.ListN.{length, drop}
+use lib.Seq.{sets-eq}
+use Rattle.append.specs.Piece.{Room, Appended, AtFront}
+use Rattle.append.proofs.Append.{appended-both, room-second, room-parts, at-front}
+use Rattle.listing.specs.Text.{newline, refusedLine}
+use Rattle.typed_call.specs.Refused.{shownText, caretLine, refusedText}
+use Rattle.typed_call.proofs.Sizes.{refusal-room}
+use Rattle.typed_call.proofs.put_refusal.Statement.{statement}
+use Rattle.typed_call.proofs.put_refusal.Tie as tie
+
+-- the stops, each from the one after it: the start, and where each part was written
+abbrev start : tie.After-refuse-arg → tie.Start
+start c = c .before .before .before
+
+abbrev lined : tie.After-put-shown-arg → tie.After-refuse
+lined c = c .before .before .before
+
+abbrev shown : tie.After-put-arg → tie.After-put-shown
+shown c = c .before .before .before
+
+abbrev ended : tie.After-put-caret-arg → tie.After-put
+ended c = c .before .before .before
+
+abbrev marked : tie.After-slice-known5 → tie.After-put-caret
+marked c = c .before .before
+
+-- what was put at the front was appended at 0
+appended-front :
+    {r : ℕ} {piece old new : List ℕ} → Room 0 piece old → AtFront piece r old new → Appended 0 piece r old new
+appended-front {piece = piece} {old} h p =
+    let e : length piece ≡ 0 + length piece = omega arith in
+    record {
+      end = p .end ∙ e;
+      bytes = p .bytes ∙ ap (λ k. piece ++ drop k old) e ∙ sym (sets-eq piece old 0 (h .fits));
+    }
+
+-- the parts, and room for each beginning of them
+module _ (s : tie.Start) where
+  abbrev line : List ℕ
+  line = refusedLine (s .args .number) (s .args .place)
+
+  abbrev text : List ℕ
+  text = shownText (now (s .args .text))
+
+  abbrev caret : List ℕ
+  caret = caretLine (s .args .place)
+
+  abbrev out : List ℕ
+  out = now (s .args .out)
+
+  room : Room 0 (line ++ text ++ newline ++ caret) out
+  unfolding refusedText
+  room = refusal-room _ _ _ _ (s .fits .number .fits) (s .fits .place .fits) (s .pre)
+
+  rooms : Room 0 line out × Room 0 (line ++ text) out × Room 0 (line ++ text ++ newline) out
+  rooms = room-parts line text newline caret room
+
+put-shown-requires : tie.Need-put-shown-requires
+put-shown-requires c κs =
+    let s = start (lined c .before) in
+    room-second _ (appended-front (rooms s .0) (lined c .refuse .ensures)) (rooms s .1)
+
+put-requires : tie.Need-put-requires
+put-requires c κs =
+    let one = lined (shown c .before) in
+    let s = start (one .before) in
+    let done = appended-front (rooms s .0) (one .refuse .ensures) in
+    room-second newline (appended-both done (shown c .put-shown .ensures)) (rooms s .2)
+
+put-caret-requires : tie.Need-put-caret-requires
+put-caret-requires c κs =
+    let two = shown (ended c .before) in
+    let one = lined (two .before) in
+    let s = start (one .before) in
+    let done = appended-both (appended-front (rooms s .0) (one .refuse .ensures)) (two .put-shown .ensures) in
+    room-second _ (appended-both done (ended c .put .ensures)) (room s)
+
+returns : tie.Need-returns
+unfolding refusedText
+returns c =
+    let three = ended (marked c .before) in
+    let two = shown (three .before) in
+    let one = lined (two .before) in
+    let s = start (one .before) in
+    let done = appended-both (appended-front (rooms s .0) (one .refuse .ensures)) (two .put-shown .ensures) in
+    at-front (room s) (appended-both (appended-both done (three .put .ensures)) (marked c .put-caret .ensures))
+
+pub put-refusal-spec : {M : Type 1} → statement M
+put-refusal-spec =
+    tie.close
+    (tie.spec (λ c κs. search needs) put-shown-requires put-requires put-caret-requires (λ c. search needs) returns)
