@@ -79,3 +79,7 @@ pub at-front-counts :
 at-front-counts {r} {text} {old} {new} h =
     let size = ap length (h .bytes) ∙ length-append text (drop (length text) old) in
     (omega (arith, h .end, size), omega (arith, h .end, size, length-take r new))
+
+-- nothing at the front leaves all as it was
+pub at-front-none : {old : List ℕ} → AtFront [] 0 old old
+at-front-none = record { end = refl; bytes = refl }

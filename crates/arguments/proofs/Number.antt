@@ -7,16 +7,12 @@ use native.Mathlib.Nat.{min-eq-left, min-eq-right}
 use native.Mathlib.Omega.{arith}
 use lib.ListN.{length, getD, drop}
 use lib.Seq.{drop-cons, drop-length}
-use lib.Dec.{ltb, leb}
-use borrow.Author.Tests.{ltb-true, ltb-false, leb-true, eq-eqb, ne-eqb}
+use lib.Dec.{ltb}
+use borrow.Author.Tests.{ltb-true, ltb-false, eq-eqb, ne-eqb}
 use Rattle.base.specs.Every.{every}
-use Rattle.base.proofs.Truth.{and-iff}
-use Rattle.decimal.specs.Value.{readAs}
+use Rattle.decimal.specs.Value.{isDigit, readAs}
 use Rattle.arguments.specs.declared.Argument.the-variants.{Number, Other}
-use Rattle.arguments.specs.Argument.{isDigit, outOfRange, numberFrom, argumentOf}
-
-pub digit-range : (byte : ℕ) → isDigit byte ≡ true → (48 ≤ byte) × (byte ≤ 57)
-digit-range byte e = let w = and-iff (leb 48 byte) (leb byte 57) .0 e in (leb-true 48 byte (w .0), leb-true byte 57 (w .1))
+use Rattle.arguments.specs.Argument.{outOfRange, numberFrom, argumentOf}
 
 -- more digits make no smaller number
 grows : (high : ℕ) (s : List ℕ) → high ≤ readAs high s

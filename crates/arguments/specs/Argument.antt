@@ -1,17 +1,13 @@
 -- A number among a program's arguments, in decimal.
-use mathlib.Core.Bool.{Bool, cond, _&&_}
+use mathlib.Core.Bool.{cond}
 use mathlib.Core.List.{List}
 use Prim.Native.Nat.{ℕ, min}
 use lib.ListN.{length}
-use lib.Dec.{eqb, leb}
+use lib.Dec.{eqb}
 use Rattle.base.specs.Every.{every}
-use Rattle.decimal.specs.Value.{readAs}
+use Rattle.decimal.specs.Value.{isDigit, readAs}
 use Rattle.arguments.specs.declared.Argument.{Argument}
 use Rattle.arguments.specs.declared.Argument.the-variants.{Number, Other}
-
--- from "0" to "9"
-abbrev pub isDigit : ℕ → Bool
-isDigit byte = leb 48 byte && leb byte 57
 
 -- no node and no state has this number: it stands for every larger one too
 abbrev pub outOfRange : ℕ

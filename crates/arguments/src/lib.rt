@@ -1,7 +1,7 @@
 // The numbers among a program's arguments.
 ghost use mathlib.Core.Path.{_≡_};
 ghost use Prim.Native.Nat.{_+_, _-_, _*_, _≤_, min};
-ghost use Rattle.arguments.specs.Argument.{isDigit, outOfRange, argumentOf};
+ghost use Rattle.arguments.specs.Argument.{outOfRange, argumentOf};
 
 // An argument of a program: a number in decimal, or another text.
 pub enum Argument {
@@ -11,12 +11,6 @@ pub enum Argument {
 
 // No node and no state has this number: it stands for every larger one too.
 const OUT_OF_RANGE: usize = 65536;
-
-fn is_digit(byte: u8) -> bool
-    ensures { λ r. ⌜ r ≡ isDigit byte ⌝ }
-{
-    b'0' <= byte && byte <= b'9'
-}
 
 // The number that one more digit makes.
 fn with_digit(high: usize, byte: u8) -> usize
@@ -40,7 +34,7 @@ pub fn decimal_value(text: &[u8]) -> Argument
     let mut i = 0;
     while i < text.len() {
         let byte = text[i];
-        if !is_digit(byte) {
+        if !decimal::is_digit(byte) {
             return Argument::Other;
         }
         value = with_digit(value, byte);

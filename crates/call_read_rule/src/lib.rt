@@ -22,7 +22,7 @@ const SHORT: usize = 64;
 // The nodes of a text; the stack has a byte for each of its bytes.
 fn read_text(text: &[u8], nodes: &mut [u8]) -> Read
     requires { ⌜ (length (now text) ≤ 4096) × (length (now nodes) ≡ 512) ⌝ }
-    ensures { λ r. ⌜ Reads (judge (now (text .entry))) r (now (nodes .exit)) × (r .place ≤ 4096) ⌝ }
+    ensures { λ r. ⌜ Reads (now (text .entry)) (judge (now (text .entry))) r (now (nodes .exit)) ⌝ }
 {
     if text.len() <= SHORT {
         let mut stack = [0u8; SHORT];

@@ -1,5 +1,5 @@
 -- The answer of the call that writes a rule: on a refusal of the rule, of a short output, and on acceptance.
-use mathlib.Core.Path.{_≡_, refl, sym, ap}
+use mathlib.Core.Path.{_≡_, sym, ap}
 use mathlib.Core.Bool.{cond}
 use mathlib.Core.List.{List, [], _∷_}
 use Prim.Native.Nat.{ℕ, _≤_, _<_}
@@ -8,7 +8,7 @@ use lib.Seq.{take-append-seam}
 use lib.Dec.{ltb}
 use borrow.Author.Tests.{lt-ltb, le-ltb, ne-eqb}
 use Rattle.append.specs.Piece.{AtFront}
-use Rattle.append.proofs.Append.{at-front-text}
+use Rattle.append.proofs.Append.{at-front-text, at-front-none}
 use Rattle.outcome.specs.declared.Outcome.{Outcome}
 use Rattle.outcome.specs.Refusal.{refuse, whole, success, refusal, first}
 use Rattle.outcome.proofs.First.{part-refuses, part-passes}
@@ -21,17 +21,13 @@ use Rattle.call_write_rule.specs.Write.{writeTable, Wrote}
 pub front-piece : {piece : List ℕ} {r : ℕ} {old new : List ℕ} → AtFront piece r old new → take r new ≡ piece
 front-piece {piece} h = rw (h .end, h .bytes) (take-append-seam piece _)
 
--- nothing was written
-unwritten : {output : List ℕ} → AtFront [] 0 output output
-unwritten = record { end = refl; bytes = refl }
-
 module _ (rule output : List ℕ) {o : Outcome} (tested : o ≡ ruleRefusal rule) where
   pub refused : ¬ (o .number ≡ 0) → Wrote rule output (record { outcome = o; written = 0 }) output
   unfolding writeTable
   refused h =
       record {
         outcome = part-refuses (ruleTable rule) _ tested h;
-        front = at-front-text (sym (ap (λ b. cond b (text (formulaOf rule)) []) (ne-eqb (o .number) 0 h))) unwritten;
+        front = at-front-text (sym (ap (λ b. cond b (text (formulaOf rule)) []) (ne-eqb (o .number) 0 h))) at-front-none;
       }
 
   module _ (passed : o .number ≡ 0) where
@@ -52,7 +48,7 @@ module _ (rule output : List ℕ) {o : Outcome} (tested : o ≡ ruleRefusal rule
     short l {x} e =
         record {
           outcome = last-row (rw (lt-ltb (length output) size l) e);
-          front = rw e unwritten;
+          front = rw e at-front-none;
         }
 
     pub written :

@@ -1,30 +1,29 @@
 -- Both ways round, from the promises of the two calls and the laws of texts and rules.
 use mathlib.Core.Path.{_≡_, refl, sym, ap, subst, _∙_}
-use mathlib.Core.List.{List, _++_}
+use mathlib.Core.List.{List}
 use Prim.Native.Nat.{ℕ, _+_, _*_, _≤_, _<_}
 use native.Mathlib.Omega.{arith}
 use native.Mathlib.Decide.{decLt, ℕ-discrete}
-use lib.ListN.{length, getD, take, drop}
+use lib.ListN.{length, take, drop}
 use lib.Seq.{take-at}
 use Rattle.outcome.specs.declared.Outcome.{Outcome}
 use Rattle.outcome.specs.declared.Written.{Written}
-use Rattle.outcome.specs.Refusal.{success}
 use Rattle.tctl.specs.Formula.{Formula}
-use Rattle.rule.specs.Bytes.{nodeCount}
 use Rattle.rule.specs.Formula.{formulaOf}
 use Rattle.rule.specs.Refusals.{ruleRefusal}
-use Rattle.rule.proofs.Accepted.{AcceptedRule, accepted}
+use Rattle.rule.proofs.Accepted.{accepted}
 use Rattle.rule_grammar.specs.Text.{text}
-use Rattle.rule_grammar.specs.Grammar.{InRange, TextOf, Fault, Verdict, fault, formula, Judged, faulty, whole}
+use Rattle.rule_grammar.specs.Grammar.{TextOf, Verdict, fault, formula, Judged, faulty, whole}
 use Rattle.rule_grammar.proofs.Judged.{text-unique}
 use Rattle.rule_bytes.specs.RuleBytes.{nodes, ruleBytes}
 use Rattle.rule_bytes.proofs.Tree.{formula-written}
-use Rattle.rule_bytes.proofs.WrittenAccepted.{written-accepted, written-length}
-use Rattle.rule_bytes.proofs.RoundTrip.{accepted-range}
+use Rattle.rule_bytes.proofs.WrittenAccepted.{written-accepted}
+use Rattle.rule_bytes.proofs.Range.{accepted-range}
 use Rattle.rule_printer.proofs.NodeCount.{nodes-counted}
 use Rattle.rule_printer.proofs.Size.{text-size}
 use Rattle.rule_order.specs.LeftFirst.{LeftFirst}
 use Rattle.rule_order.proofs.LeftFirst.{left-first}
+use Rattle.rule_order.proofs.LeftFirstWritten.{left-first-written}
 use Rattle.call_read_rule.specs.Read.{ReadAs}
 use Rattle.call_write_rule.specs.Write.{Wrote}
 use Rattle.claim_texts.specs.TextTold.{Gives, ReadTold, WroteTold}
@@ -121,6 +120,7 @@ round-trips =
           (
             ap ruleRefusal (it .gives) ∙ written-accepted f (it .few) (it .textOf .range),
             subst (TextOf t) (sym (ap formulaOf (it .gives) ∙ formula-written f)) (it .textOf),
+            subst LeftFirst (sym (it .gives)) (left-first-written f),
           );
       text-again =
           λ t output r new h z output′ r′ new′ w l.

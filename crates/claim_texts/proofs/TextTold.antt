@@ -1,9 +1,8 @@
 -- Each sentence from the promise of its call alone.
-use mathlib.Core.Path.{_≡_, refl, sym, ap, subst, _∙_}
-use mathlib.Core.Bool.{false, cond}
+use mathlib.Core.Path.{_≡_, refl, sym, ap, _∙_}
+use mathlib.Core.Bool.{cond}
 use mathlib.Core.List.{List, [], _∷_}
-use Prim.Native.Nat.{ℕ, _+_, _*_, _≤_, _<_}
-use native.Mathlib.Omega.{arith}
+use Prim.Native.Nat.{ℕ, _+_, _*_}
 use lib.ListN.{length}
 use lib.Dec.{eqb, ltb}
 use borrow.Author.Tests.{lt-ltb, le-ltb, ne-eqb, eq-eqb}
@@ -11,17 +10,16 @@ use Rattle.append.specs.Piece.{AtFront}
 use Rattle.append.proofs.Append.{at-front-text}
 use Rattle.outcome.specs.declared.Outcome.{Outcome}
 use Rattle.outcome.specs.declared.Written.{Written}
-use Rattle.outcome.specs.Refusal.{refuse, whole as if-whole, success, refusal, first}
+use Rattle.outcome.specs.Refusal.{refuse, whole as if-whole, success, first}
 use Rattle.outcome.proofs.First.{part-refuses, part-passes}
-use Rattle.tctl.specs.Formula.{Formula}
 use Rattle.rule.specs.Formula.{formulaOf}
 use Rattle.rule.specs.Refusals.{ruleTable, ruleRefusal}
 use Rattle.rule_grammar.specs.Text.{text}
-use Rattle.rule_grammar.specs.Grammar.{TextOf, Fault, Verdict, fault, formula, Judged, faulty, whole}
+use Rattle.rule_grammar.specs.Grammar.{Verdict, fault, Judged, faulty, whole}
 use Rattle.rule_grammar.proofs.Judged.{judged-unique}
 use Rattle.rule_bytes.specs.RuleBytes.{nodes, ruleBytes}
 use Rattle.call_read_rule.specs.Read.{readTable, ruleOf, writtenRule, ReadAs}
-use Rattle.call_write_rule.specs.Write.{writeTable, writtenText, Wrote}
+use Rattle.call_write_rule.specs.Write.{writeTable, Wrote}
 use Rattle.claim_texts.specs.TextTold.{Gives, Kept, ReadTold, WroteTold}
 
 -- the output where the number is not 0, and where it is
@@ -54,6 +52,7 @@ module _ {t output : List ℕ} {r : Written} {new : List ℕ} (h : ReadAs t outp
   unfolding readTable first
   read-told =
       record {
+        decided = (h .verdict, h .judged);
         long = λ l. h .outcome ∙ rw (lt-ltb 4096 (length t) l);
         fault = λ l p f. answer (faulty f) ∙ rw (le-ltb 4096 (length t) l);
         many = λ l f x m. answer (whole x) ∙ rw (le-ltb 4096 (length t) l, lt-ltb 64 (nodes f) m);

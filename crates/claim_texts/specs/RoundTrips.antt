@@ -25,10 +25,11 @@ Bytes s = (i : ℕ) → getD s i 0 < 256
 pub record RoundTrips : Type 0 where
   -- "each with one tree"
   pub one-tree : (f g : Formula) → InRange f → InRange g → text f ≡ text g → f ≡ g
-  -- a text that is read becomes a rule that passes 10 to 16, and stands for the formula whose text it is
+  -- a text that is read becomes a rule that passes 10 to 16, stands for the formula whose text it is, and has its
+  -- "operands before their node, left first"
   pub accepted :
       (t output : List ℕ) (r : Written) (new : List ℕ) → ReadAs t output r new → r .outcome .number ≡ 0 →
-      (ruleRefusal (front r new) ≡ success) × TextOf t (formulaOf (front r new))
+      (ruleRefusal (front r new) ≡ success) × TextOf t (formulaOf (front r new)) × LeftFirst (front r new)
   -- written back, it is the same text
   pub text-again :
       (t output : List ℕ) (r : Written) (new : List ℕ) → ReadAs t output r new → r .outcome .number ≡ 0 →

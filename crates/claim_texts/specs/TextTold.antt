@@ -10,22 +10,24 @@ use Rattle.tctl.specs.Formula.{Formula}
 use Rattle.rule.specs.Formula.{formulaOf}
 use Rattle.rule.specs.Refusals.{ruleRefusal}
 use Rattle.rule_grammar.specs.Text.{text}
-use Rattle.rule_grammar.specs.Grammar.{TextOf, Fault}
+use Rattle.rule_grammar.specs.Grammar.{TextOf, Fault, Verdict, Judged}
 use Rattle.rule_bytes.specs.RuleBytes.{nodes, ruleBytes}
 
--- the output has these bytes, as many as are answered, and is kept past them
+-- the output has these bytes, as many as are answered; "bytes past a result are kept" (01)
 pub record Gives (bytes output : List ℕ) (r : Written) (newOutput : List ℕ) : Type 0 where
   pub outcome : r .outcome ≡ success
   pub written : r .written ≡ length bytes
   pub leaves : newOutput ≡ bytes ++ drop (length bytes) output
 
--- nothing was written
+-- "a refusal changes nothing in a lent buffer" (01)
 pub record Kept (output : List ℕ) (r : Written) (newOutput : List ℕ) : Type 0 where
   pub written : r .written ≡ 0
   pub leaves : newOutput ≡ output
 
 -- of the call that reads
 pub record ReadTold (t output : List ℕ) (r : Written) (newOutput : List ℕ) : Type 0 where
+  -- a text is of the grammar or has a fault: there is no other case
+  pub decided : (v : Verdict) × Judged t v
   -- "65 above 4,096 bytes"
   pub long : 4096 < length t → r .outcome ≡ refusal 65 0
   -- "64 text not of the grammar", with its place

@@ -1,3 +1,4 @@
 pub mod Decimal
 pub mod Value
 pub mod Leading
+pub mod DigitRange

@@ -1,8 +1,15 @@
-// Numbers in decimal, written into a lent buffer.
+// Numbers in decimal: their digits, and writing them into a lent buffer.
 ghost use mathlib.Core.Path.{_≡_};
 ghost use Prim.Native.Nat.{_+_, _%_};
 ghost use Rattle.append.specs.Piece.{Room, Appended};
 ghost use Rattle.decimal.specs.Decimal.{decimal};
+ghost use Rattle.decimal.specs.Value.{isDigit};
+
+pub fn is_digit(byte: u8) -> bool
+    ensures { λ r. ⌜ r ≡ isDigit byte ⌝ }
+{
+    b'0' <= byte && byte <= b'9'
+}
 
 // The last digit of x.
 fn digit(x: usize) -> u8

@@ -1,4 +1,4 @@
 pub mod Sits
 pub mod Tree
 pub mod WrittenAccepted
-pub mod RoundTrip
+pub mod Range

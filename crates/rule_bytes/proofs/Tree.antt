@@ -117,6 +117,7 @@ join-stands s n j f g p q sits d l =
     ap (formulaBy d s) e ∙ r .2 ∙
     join-operation j f g a (t - 1) (formulaBy (r .0) s) (p (r .0) (omega (arith, r .1))) (q (r .0) (omega (arith, r .1)))
 
+-- by induction on the formula: the last of its nodes names the last ones of its operands, which stand for them
 pub stands : (f : Formula) (s : List ℕ) (n : ℕ) → Sits s n (nodesFrom n f) → Stands s n f
 unfolding nodesFrom
 stands =
@@ -161,7 +162,7 @@ sits-written f =
       place = refl;
     }
 
--- "each with one tree": the rule that is written has the formula
+-- the rule that is written has the formula: its last node stands for it, by `stands`
 pub formula-written : (f : Formula) → formulaOf (ruleBytes f) ≡ f
 formula-written f =
     let k = count-written f in

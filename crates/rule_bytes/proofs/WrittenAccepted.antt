@@ -91,6 +91,7 @@ AllFormed f =
 at-node : (s : List ℕ) {w : NodeWords} (t n : ℕ) → t ≡ n → nodeWords s n ≡ w → Formed t w → Formed t (nodeWords s t)
 at-node s t n e h k = subst (Formed t) (sym (ap (nodeWords s) e ∙ h)) k
 
+-- a node is of an operand, or the last one, which was written over operands that are lower
 pub all-formed : (f : Formula) → AllFormed f
 unfolding nodesFrom malformed notLower formOf wrongKind wrongA
 all-formed =
@@ -257,6 +258,8 @@ module _ (s : List ℕ) (n f g v : ℕ) (one : 1 ≤ f) (two : 1 ≤ g) (p : Onc
 abbrev AllOnce : Formula → Type 0
 AllOnce f = (s : List ℕ) (n v : ℕ) → Sits s n (nodesFrom n f) → Once s n (nodes f) v
 
+-- by induction: below the formula's nodes and from its last one on it names none; between them the operands name all but their
+-- last ones, and the last node names these
 all-once : (f : Formula) → AllOnce f
 unfolding nodesFrom usesIn formOf
 all-once =

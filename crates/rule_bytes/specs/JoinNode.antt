@@ -1,5 +1,4 @@
 -- The node of two operands, by what joins them.
-use mathlib.Core.List.{List}
 use Prim.Native.Nat.{ℕ}
 use Rattle.tctl.specs.Kind.{someRun, allRuns}
 use Rattle.rule_grammar.specs.Machine.{Join, conj, disj, until, bound}

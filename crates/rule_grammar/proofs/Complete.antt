@@ -18,7 +18,8 @@ use Rattle.rule_grammar.specs.Machine.{Join, conj, disj, until, Opening,
 use Rattle.rule_grammar.specs.Grammar.{InRange}
 use Rattle.rule_grammar.specs.Machine.{Context, negated, opened, joined, start, letter, labelled}
 use Rattle.rule_grammar.specs.Machine.{ended, equalled, linked, State, at, join}
-use Rattle.rule_grammar.specs.Machine.{digit, grown, grows, mostOf, after, step, whole, done}
+use Rattle.rule_grammar.specs.Machine.{grown, grows, mostOf, after, step, whole, done}
+use Rattle.decimal.specs.Value.{isDigit as digit}
 use Rattle.rule_grammar.specs.Machine.{Reading, ran, stepped, onward, reading}
 use Rattle.rule_grammar.proofs.Seen.{JoinLive, grows-true}
 
@@ -190,6 +191,7 @@ join-reads j f g s u l p q =
       behind = λ K. end;
     }
 
+-- by induction on the formula: its parts are read one behind another, whatever is open around them
 pub text-reads : (f : Formula) → InRange f → Reads f (text f)
 unfolding step text
 text-reads always h =

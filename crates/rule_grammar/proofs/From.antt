@@ -1,15 +1,14 @@
 -- The machine at a place of a text: one step, no step, or the end.
-use mathlib.Core.Path.{_≡_, refl, sym, ap, _∙_}
-use mathlib.Core.List.{List, _∷_}
+use mathlib.Core.Path.{_≡_, sym, ap, _∙_}
+use mathlib.Core.List.{List}
 use mathlib.Core.Option.{Option, none, some}
 use Prim.Native.Nat.{ℕ, suc, _+_, _≤_, _<_}
 use native.Mathlib.Omega.{arith}
 use native.Mathlib.Decide.{decLt}
 use lib.ListN.{length, getD, drop}
 use lib.Seq.{drop-cons, drop-length}
-use Rattle.tctl.specs.Formula.{Formula}
-use Rattle.rule_grammar.specs.Grammar.{Verdict, fault}
-use Rattle.rule_grammar.specs.Machine.{State, step, done, stepped, reading, ran, ending, verdict, from}
+use Rattle.rule_grammar.specs.Grammar.{fault}
+use Rattle.rule_grammar.specs.Machine.{State, step, done, stepped, reading, ending, verdict, from}
 use Rattle.rule_grammar.proofs.Judged.{stuck-stays}
 
 module _ (t : List ℕ) (i : ℕ) (st : State) where

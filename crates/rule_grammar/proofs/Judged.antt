@@ -7,6 +7,7 @@ use Prim.Native.Nat.{ℕ, zero, suc, _+_, _≤_, _<_}
 use native.Mathlib.Omega.{arith}
 use native.Mathlib.Decide.{decLt}
 use lib.ListN.{length, take}
+use lib.Seq.{take-length}
 use Rattle.tctl.specs.Formula.{Formula}
 use Rattle.rule_grammar.specs.Text.{text}
 use Rattle.rule_grammar.specs.Grammar.{InRange, TextOf, OfGrammar, Begins, Place, Fault, Verdict, fault, formula, Judged, faulty, whole}
@@ -39,7 +40,7 @@ judged-text {t} {f} e = turn (reading t 0 (ran initial)) refl e
             subst (λ (s : List ℕ). TextOf s f) (h .same)
             (subst (TextOf _) same (done-text st g (h .live) d))
 
--- two formulas in range with one text are one
+-- two formulas in range with one text are one: the machine reads the text of each and comes to it
 pub text-unique : (f g : Formula) → InRange f → InRange g → text f ≡ text g → f ≡ g
 text-unique f g h k e =
     let p = text-judged {t = text g} {f = f} (record { range = h; same = e }) in
@@ -58,6 +59,8 @@ pub reached-begins : (p : List ℕ) (st : State) → reading p 0 (ran initial) �
 reached-begins p st e =
     let h = reading-reached p st e in subst Begins (h .same) (seen-begins st (h .live))
 
+-- a prefix that no step was left for begins nothing: the whole text would be stuck there too, and a formula's text is read
+-- to its end
 pub begins-reached : (p : List ℕ) → Begins p → (st : State) × (reading p 0 (ran initial) ≡ ran st)
 begins-reached p h = turn (reading p 0 (ran initial)) refl
   where
@@ -96,6 +99,7 @@ record Stuck (s : List ℕ) (i p : ℕ) (st : State) : Type 0 where
   before : reading (take count s) i (ran st) ≡ ran state
   there : reading (take (suc count) s) i (ran st) ≡ stuck p
 
+-- by induction on the bytes: the first step that is not there is this byte's, or one further on
 where-stuck : (s : List ℕ) (i p : ℕ) (st : State) → reading s i (ran st) ≡ stuck p → Stuck s i p st
 unfolding reading
 where-stuck [] i p st e = absurd (let z : _≡_ {A = ℕ} 0 1 = cc in let y : ⊥ = omega arith in y)
@@ -130,10 +134,6 @@ no-formula : {t : List ℕ} {p : ℕ} → judge t ≡ fault p → ¬ OfGrammar t
 no-formula e h =
     let k = text-judged (h .textOf) in let z : _≡_ {A = ℕ} 0 1 = cc in let y : ⊥ = omega arith in y
 
-take-whole : (t : List ℕ) → take (length t) t ≡ t
-take-whole [] = refl
-take-whole (x ∷ t) = ap (λ (s : List ℕ). x ∷ s) (take-whole t)
-
 -- a shorter beginning of a list begins a longer one
 take-split : (m n : ℕ) (t : List ℕ) → m ≤ n → (u : List ℕ) × (take n t ≡ take m t ++ u)
 take-split zero n t h = (take n t, refl)
@@ -153,6 +153,8 @@ longest-before t p there q h b = turn (decLt p q)
         let r = take-split (suc p) q t l in
         absurd (there (omega arith) (begins-less (take (suc p) t) (r .0) (subst Begins (r .1) b)))
 
+-- Stuck at a byte: what was read begins a text, since the machine reached a state by it, and with that byte it reaches
+-- none. Not stuck: all was read, so the whole begins one, and it is no formula's since the machine would have come to it.
 pub judged-fault : {t : List ℕ} {p : ℕ} → judge t ≡ fault p → Fault t p
 unfolding judge
 judged-fault {t} {p} e = turn (reading t 0 (ran initial)) refl e
@@ -190,7 +192,7 @@ judged-fault {t} {p} e = turn (reading t 0 (ran initial)) refl e
               place =
                   record {
                     inside = omega (arith, size);
-                    begins = subst (λ (n : ℕ). Begins (take n t)) size (rw (take-whole t) (reached-begins t st k));
+                    begins = subst (λ (n : ℕ). Begins (take n t)) size (rw (take-length t) (reached-begins t st k));
                     longest = λ q h b. omega (arith, size);
                   };
             }

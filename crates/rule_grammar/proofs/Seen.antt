@@ -9,6 +9,7 @@ use lib.Dec.{eqb, leb, ltb}
 use borrow.Author.Tests.{eqb-true, leb-true, ltb-true}
 use Rattle.base.proofs.Truth.{and-iff, cond-elim}
 use Rattle.decimal.specs.Decimal.{decimal}
+use Rattle.decimal.proofs.DigitRange.{Digit, digit-true}
 use Rattle.decimal.proofs.Decimal.{decimal-last, decimal-more}
 use Rattle.tctl.specs.Kind.{someRun, allRuns}
 use Rattle.tctl.specs.Formula.{Formula, label, not}
@@ -18,7 +19,8 @@ use Rattle.rule_grammar.specs.Machine.{Join, conj, disj, until, pair, ti
 use Rattle.rule_grammar.specs.Grammar.{InRange}
 use Rattle.rule_grammar.specs.Machine.{Context, negated, opened, joined, Focus, start, t, tr, tru, letter, labelled}
 use Rattle.rule_grammar.specs.Machine.{quantified, ended, spaced, awaited, compared, equalled, linked, State, at, join}
-use Rattle.rule_grammar.specs.Machine.{on, digit, grown, grows, mostOf, after, further, step}
+use Rattle.rule_grammar.specs.Machine.{on, grown, grows, mostOf, after, further, step}
+use Rattle.decimal.specs.Value.{isDigit as digit}
 
 -- what stands before an operand
 abbrev pub beside : Context → List ℕ
@@ -112,15 +114,6 @@ join-text (until allRuns less c) f g = refl
 join-text (until allRuns more c) f g = refl
 
 -- ── digits ──
-
-pub record Digit (b : ℕ) : Type 0 where
-  pub low : 48 ≤ b
-  pub high : b ≤ 57
-
-pub digit-true : (b : ℕ) → digit b ≡ true → Digit b
-digit-true b e =
-    let h = and-iff (leb 48 b) (leb b 57) .0 e in
-    record { low = leb-true 48 b (h .0); high = leb-true b 57 (h .1) }
 
 pub record Grows (most n b : ℕ) : Type 0 where
   pub isDigit : Digit b

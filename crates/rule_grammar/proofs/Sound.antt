@@ -62,6 +62,7 @@ beside-begins (joined j f) p l h =
           joins j f (h .formula) (l .0 .0) (l .0 .1) (h .textOf .range) (rw (h .textOf .same) (simp append-assoc));
     }
 
+-- by induction on what is open: each can be closed around a text, the innermost first
 around-begins : (K : List Context) (p : List ℕ) → StackLive K → Begins p → Begins (around K ++ p)
 around-begins [] p l h = h
 around-begins (k ∷ K) p l h =
@@ -82,6 +83,7 @@ from-join j f p rest l h e = from (join j f always) p rest (join-live j f always
 abbrev lastly : List ℕ
 lastly = 32 ∷ 116 ∷ 114 ∷ 117 ∷ 101 ∷ 41 ∷ []
 
+-- what was read of a formula begins the text of one that goes on with the least there is: `true`, a label, c = 0
 part-begins : (x : Focus) → FocusLive x → Begins (part x)
 unfolding text
 part-begins start h = from always [] (text always) tt refl

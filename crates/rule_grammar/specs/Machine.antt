@@ -8,6 +8,7 @@ use lib.ListN.{length, drop}
 use lib.Dec.{eqb, leb, ltb}
 use Rattle.tctl.specs.Kind.{Runs, someRun, allRuns}
 use Rattle.decimal.specs.Decimal.{decimal}
+use Rattle.decimal.specs.Value.{isDigit as digit}
 use Rattle.tctl.specs.Formula.{Formula, Bound, atMost, atLeast, always, label, not, and, or, someUntil, allUntil}
 use Rattle.rule_grammar.specs.Grammar.{Verdict, fault, formula}
 
@@ -98,10 +99,6 @@ join (until allRuns s c) f g = allUntil (bound s c) f g
 -- the byte e goes on to x; any other, as y says
 abbrev pub on : ℕ → ℕ → State → Option State → Option State
 on b e x y = cond (eqb b e) (some x) y
-
--- 0 to 9
-abbrev pub digit : ℕ → Bool
-digit b = leb 48 b && leb b 57
 
 -- the number n with this digit behind it
 abbrev pub grown : ℕ → ℕ → ℕ

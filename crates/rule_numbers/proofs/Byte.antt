@@ -1,15 +1,15 @@
 -- The byte at a place, and what the machine does with it.
-use mathlib.Core.Path.{_≡_, refl, sym, ap, _∙_}
+use mathlib.Core.Path.{_≡_, sym, ap, _∙_}
 use mathlib.Core.Bool.{Bool, true, false, _&&_}
 use mathlib.Core.List.{List}
 use mathlib.Core.Option.{some}
 use Prim.Native.Nat.{ℕ, _+_, _≤_, _<_}
-use native.Mathlib.Omega.{arith}
 use lib.ListN.{length, getD}
 use lib.Dec.{eqb, ltb}
 use borrow.Author.Tests.{ltb-true, lt-ltb, eqb-true}
 use Rattle.base.proofs.Truth.{and-iff}
-use Rattle.rule_grammar.specs.Machine.{State, step, from, digit}
+use Rattle.rule_grammar.specs.Machine.{State, step, from}
+use Rattle.decimal.specs.Value.{isDigit as digit}
 use Rattle.rule_grammar.proofs.From.{from-step}
 use Rattle.rule_numbers.specs.Byte.{byteIs}
 use Rattle.rule_numbers.specs.Number.{digitAt}

@@ -1,6 +1,6 @@
 -- A number with one digit more, or none.
 use mathlib.Core.Path.{_≡_, ap, _∙_}
-use mathlib.Core.Bool.{Bool, true, false, cond}
+use mathlib.Core.Bool.{true, false}
 use mathlib.Core.List.{List, [], _∷_}
 use Prim.Native.Nat.{ℕ, suc, _+_, _-_, _≤_, _<_}
 use native.Mathlib.Omega.{arith}
@@ -31,11 +31,9 @@ module _ (most n : ℕ) (t : List ℕ) (i : ℕ) where
   further-none e = rw (ap (λ (k : ℕ). drop k t) e ∙ drop-length t)
 
 -- a number ends in the text: each digit is a byte of it
-pub record Ends (n : Number) (i : ℕ) (t : List ℕ) : Type 0 where
-  pub after : i ≤ n .end
-  pub inside : n .end ≤ length t
-
-pub further-ends : (most n : ℕ) (s : List ℕ) (i size : ℕ) → i + length s ≤ size → (i ≤ further most n s i .end) × (further most n s i .end ≤ size)
+further-ends :
+    (most n : ℕ) (s : List ℕ) (i size : ℕ) → i + length s ≤ size →
+    (i ≤ further most n s i .end) × (further most n s i .end ≤ size)
 unfolding further
 further-ends most n [] i size h = (omega arith, omega arith)
 further-ends most n (b ∷ s) i size h =

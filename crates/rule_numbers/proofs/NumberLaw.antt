@@ -1,14 +1,12 @@
 -- A number that the machine reads.
-use mathlib.Core.Path.{_≡_, refl, sym, ap, _∙_}
-use mathlib.Core.Bool.{Bool, true, false, cond}
-use mathlib.Core.List.{List, [], _∷_}
+use mathlib.Core.Path.{_≡_, refl, _∙_}
+use mathlib.Core.Bool.{Bool, true, false}
+use mathlib.Core.List.{List, []}
 use mathlib.Core.Option.{some}
 use Prim.Native.Nat.{ℕ, zero, suc, _+_, _-_, _≤_, _<_}
 use native.Mathlib.Omega.{arith}
-use native.Mathlib.Decide.{decLt}
 use lib.ListN.{length, getD, drop}
-use lib.Seq.{drop-cons, drop-length}
-use Rattle.rule_grammar.specs.Machine.{State, step, from, digit, grown, grows}
+use Rattle.rule_grammar.specs.Machine.{State, step, from, grown, grows}
 use Rattle.rule_grammar.proofs.Seen.{grows-true}
 use Rattle.rule_grammar.proofs.From.{from-step}
 use Rattle.rule_numbers.specs.Number.{further}

@@ -4,7 +4,8 @@ use mathlib.Core.List.{List, [], _∷_}
 use Prim.Native.Nat.{ℕ, suc, _+_, _-_}
 use lib.ListN.{length, getD, drop}
 use lib.Dec.{ltb}
-use Rattle.rule_grammar.specs.Machine.{digit, grown, grows}
+use Rattle.rule_grammar.specs.Machine.{grown, grows}
+use Rattle.decimal.specs.Value.{isDigit as digit}
 use Rattle.rule_numbers.specs.declared.Number.{Number}
 
 -- a digit stands at place i

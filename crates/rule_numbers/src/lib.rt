@@ -3,7 +3,7 @@ ghost use mathlib.Core.Path.{_≡_};
 ghost use mathlib.Core.Bool.{true};
 ghost use Prim.Native.Nat.{_-_, _≤_, _<_};
 ghost use lib.ListN.{length, drop};
-ghost use Rattle.rule_grammar.specs.Machine.{digit, grows as Machine·grows};
+ghost use Rattle.rule_grammar.specs.Machine.{grows as Machine·grows};
 ghost use Rattle.rule_numbers.specs.Byte.{byteIs};
 ghost use Rattle.rule_numbers.specs.Number.{further, numberFrom};
 
@@ -21,12 +21,6 @@ pub fn stands(text: &[u8], i: usize, b: u8) -> bool
     false
 }
 
-fn is_digit(b: u8) -> bool
-    ensures { λ r. ⌜ r ≡ digit b ⌝ }
-{
-    48 <= b && b <= 57
-}
-
 // A digit's own number.
 fn digit_value(b: u8) -> u32
     requires { ⌜ 48 ≤ b ⌝ }
@@ -40,7 +34,7 @@ fn grows(most: u32, n: u32, b: u8) -> bool
     requires { ⌜ n ≤ 65535 ⌝ }
     ensures { λ r. ⌜ r ≡ Machine·grows most n b ⌝ }
 {
-    if is_digit(b) {
+    if decimal::is_digit(b) {
         if 0 < n {
             return n * 10 + digit_value(b) <= most;
         }
@@ -74,7 +68,7 @@ pub fn number_from(text: &[u8], most: u32, i: usize) -> Number
 {
     if i < text.len() {
         let b = text[i];
-        if is_digit(b) {
+        if decimal::is_digit(b) {
             return further_digits(text, most, digit_value(b), i + 1);
         }
     }

@@ -1,6 +1,6 @@
 -- The turn behind an operand, by what is open around it.
 use mathlib.Core.Path.{_≡_, refl, sym, ap, subst, _∙_}
-use mathlib.Core.Bool.{Bool, true, false, cond}
+use mathlib.Core.Bool.{true, false, cond}
 use mathlib.Core.List.{List, [], _∷_}
 use Prim.Native.Nat.{ℕ, _+_, _-_, _/_, _%_, _≤_, _<_}
 use native.Mathlib.Omega.{arith}
@@ -10,7 +10,7 @@ use lib.Dec.{eqb}
 use borrow.Author.Tests.{eqb-true, eqb-false}
 use Rattle.base.proofs.Truth.{cond-elim}
 use Rattle.rule_grammar.specs.Machine.{Opening}
-use Rattle.rule_tokens.specs.Tags.{openTag}
+use Rattle.rule_tokens.specs.Tags.{openTag, OfOpening}
 use Rattle.rule_numbers.specs.Byte.{byteIs}
 use Rattle.rule_tokens.specs.declared.Token.{Token}
 use Rattle.rule_tokens.specs.Sign.{Signed, joins, unsigned, signOf, signToken}
@@ -19,7 +19,7 @@ use Rattle.rule_parser.specs.declared.Spot.{Spot}
 use Rattle.rule_stack.specs.Open.{put, oneNode, joinedNode}
 use Rattle.rule_parser.specs.Standing.{spot, Behind, Within, Turned}
 use Rattle.rule_parser.proofs.Stack.{opened-size}
-use Rattle.rule_parser.proofs.Around.{join-tag, Outermost, Negated, First, Second, outermost, negation, first-of-two, second-of-two}
+use Rattle.rule_parser.proofs.Around.{join-tag, First, Second, outermost, negation, first-of-two, second-of-two}
 use Rattle.rule_parser.proofs.Turns.{stop-turn, not-turn, join-turn, close-turn, open-turn, finish-turn, rest-turn}
 
 module _ (t : List ℕ) (s : Spot) (stack all : List ℕ) (h : Behind t s stack all) (w : Within t s stack) where
@@ -61,6 +61,9 @@ module _ (t : List ℕ) (s : Spot) (stack all : List ℕ) (h : Behind t s stack 
 
         pub opening-low : tag ≤ 6
         opening-low = first-of-two t s stack all h some other low .1
+
+        pub opening-of : OfOpening tag
+        opening-of = record { opening = first .opening; same = first .tagged }
 
         abbrev Law : Signed → Type 0
         Law = Joins t (first .around) (first .operand) (first .opening) (s .end)

@@ -1,5 +1,5 @@
 -- The first turn, and the last.
-use mathlib.Core.Path.{_≡_, refl, sym, ap, subst, _∙_}
+use mathlib.Core.Path.{_≡_, refl, sym, subst}
 use mathlib.Core.Bool.{cond}
 use mathlib.Core.List.{List, []}
 use Prim.Native.Nat.{ℕ, suc, _+_, _-_, _*_, _≤_, _<_}
@@ -8,12 +8,11 @@ use lib.ListN.{length, take}
 use lib.Dec.{ltb}
 use borrow.Author.Tests.{lt-ltb, ltb-true}
 use Rattle.base.proofs.Truth.{cond-elim}
-use Rattle.rule_grammar.specs.Grammar.{Verdict, fault, formula}
+use Rattle.rule_grammar.specs.Grammar.{Verdict, formula}
 use Rattle.rule_grammar.specs.Machine.{judge}
 use Rattle.rule_bytes.specs.RuleBytes.{nodes, nodesFrom}
 use Rattle.rule_parser.specs.declared.Spot.{Spot}
-use Rattle.rule_parser.specs.declared.Read.{Read}
-use Rattle.rule_parser.specs.Standing.{spot, Standing, Within, Turned}
+use Rattle.rule_parser.specs.Standing.{spot, Standing, Turned}
 use Rattle.rule_parser.specs.Read.{Reads, faulty, whole}
 use Rattle.rule_parser.proofs.Turns.{starts}
 
@@ -44,17 +43,18 @@ falls {t} {s = s} {r} l h =
 -- the text is a formula's
 pub read-whole :
     {t stack all : List ℕ} {s : Spot} → Standing t s stack all → s .phase ≡ 3 →
-    Reads (judge t) (record { place = s .end; count = s .count }) all
-read-whole {all = all} {s} h e =
+    Reads t (judge t) (record { place = s .end; count = s .count }) all
+read-whole {t} {all = all} {s} h e =
     let f = h .finished e in
-    subst (λ (v : Verdict). Reads v (record { place = s .end; count = s .count }) all) (sym (f .verdict))
-    (subst (λ (n : ℕ). Reads (formula (f .whole)) (record { place = s .end; count = n }) all) (sym (f .count))
-    (whole (λ l. subst (λ (n : ℕ). take (8 * n) all ≡ nodesFrom 0 (f .whole)) (f .count) (f .noded .nodes (omega (arith, f .count, l))))))
+    subst (λ (v : Verdict). Reads t v (record { place = s .end; count = s .count }) all) (sym (f .verdict))
+    (subst (λ (p : ℕ). Reads t (formula (f .whole)) (record { place = p; count = s .count }) all) (sym (f .end))
+    (subst (λ (n : ℕ). Reads t (formula (f .whole)) (record { place = length t; count = n }) all) (sym (f .count))
+    (whole (λ l. subst (λ (n : ℕ). take (8 * n) all ≡ nodesFrom 0 (f .whole)) (f .count) (f .noded .nodes (omega (arith, f .count, l)))))))
 
 -- or has its fault where reading stopped
 pub read-fault :
     {t stack all : List ℕ} {s : Spot} → Standing t s stack all → 2 ≤ s .phase → ¬ (s .phase ≡ 3) →
-    Reads (judge t) (record { place = s .end; count = 0 }) all
-read-fault {all = all} {s} h l n =
-    subst (λ (v : Verdict). Reads v (record { place = s .end; count = 0 }) all)
+    Reads t (judge t) (record { place = s .end; count = 0 }) all
+read-fault {t} {all = all} {s} h l n =
+    subst (λ (v : Verdict). Reads t v (record { place = s .end; count = 0 }) all)
     (sym (h .stopped (omega (arith, l, n, h .known)))) faulty

@@ -1,16 +1,15 @@
 -- The turn at an operand's start, by the token there.
 use mathlib.Core.Path.{_≡_, refl, sym, ap, subst, _∙_}
-use mathlib.Core.List.{List, [], _∷_}
+use mathlib.Core.List.{List, []}
 use Prim.Native.Nat.{ℕ, _+_, _/_, _%_, _≤_, _<_}
 use native.Mathlib.Omega.{arith}
 use lib.ListN.{length, set}
 use Rattle.tctl.specs.Formula.{always, label}
-use Rattle.rule_grammar.specs.Machine.{Opening, negated, opened}
+use Rattle.rule_grammar.specs.Machine.{negated, opened}
 use Rattle.rule_bytes.specs.RuleBytes.{nodesFrom}
 use Rattle.rule_tokens.specs.Tags.{openTag}
 use Rattle.rule_tokens.specs.declared.Token.{Token}
 use Rattle.rule_tokens.specs.Start.{Start, truth, labels, negates, opens, nowhere, startOf, startToken}
-use Rattle.rule_numbers.proofs.Byte.{Span}
 use Rattle.rule_tokens.proofs.StartLaw.{Begun, true-begun, label-begun, not-begun, open-begun, none-begun, start-law}
 use Rattle.rule_parser.specs.declared.Spot.{Spot}
 use Rattle.rule_stack.specs.Open.{put, oneNode}

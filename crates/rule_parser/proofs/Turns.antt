@@ -2,21 +2,20 @@
 use mathlib.Core.Path.{_≡_, refl, sym, ap, subst, _∙_}
 use mathlib.Core.Bool.{true, false}
 use mathlib.Core.List.{List, [], _∷_, _++_, append-assoc}
-use mathlib.Core.Option.{none, some}
-use Prim.Native.Nat.{ℕ, _+_, _-_, _*_, _/_, _%_, _≤_, _<_}
+use Prim.Native.Nat.{ℕ, _+_, _-_, _/_, _%_, _≤_, _<_}
 use native.Mathlib.Omega.{arith}
-use lib.ListN.{length, getD, set, take, length-set}
+use lib.ListN.{length, getD, set, length-set}
 use lib.Seq.{sets, length-sets}
 use Rattle.tctl.specs.Kind.{someRun, allRuns}
 use Rattle.tctl.specs.Formula.{Formula, not}
-use Rattle.rule_grammar.specs.Grammar.{fault, formula}
+use Rattle.rule_grammar.specs.Grammar.{fault}
 use Rattle.rule_grammar.specs.Machine.{Join, conj, disj, until, less, more}
-use Rattle.rule_grammar.specs.Machine.{Opening, Context, negated, opened, joined, start, ended, State, at, join, step, done}
+use Rattle.rule_grammar.specs.Machine.{Opening, Context, negated, opened, joined, start, ended, at, join, step, done}
 use Rattle.rule_grammar.specs.Machine.{judge, from}
-use Rattle.rule_grammar.proofs.From.{from-end, from-step, from-stuck, from-halt, from-same}
+use Rattle.rule_grammar.proofs.From.{from-end, from-stuck, from-halt, from-same}
 use Rattle.rule_bytes.specs.RuleBytes.{nodes, nodeBytes, nodesFrom}
 use Rattle.rule_bytes.specs.JoinNode.{operationOf, kindOf, numberOf}
-use Rattle.rule_bytes.proofs.Tree.{some-nodes, joinBytes, join-nodes, join-bytes}
+use Rattle.rule_bytes.proofs.Tree.{joinBytes, join-nodes, join-bytes}
 use Rattle.rule_tokens.specs.Tags.{joinTag}
 use Rattle.rule_numbers.specs.Byte.{byteIs}
 use Rattle.rule_numbers.proofs.Byte.{Span, byte-step, byte-not, inside-at}
@@ -289,7 +288,7 @@ module _ (t : List ℕ) (s : Spot) (stack all : List ℕ) (w : Within t s stack)
   finish-turn f c n r e =
       record {
         standing =
-            finishes (record { whole = f; count = c; noded = n; verdict = r ∙ from-end t (s .end) (at (ended f) []) e });
+            finishes (record { whole = f; end = e; count = c; noded = n; verdict = r ∙ from-end t (s .end) (at (ended f) []) e });
         within = record { read = w .read; short = w .short; room = w .room; few = omega (arith, w .few) };
         onward = λ z. absurd (let y : ⊥ = omega (arith, z) in y);
       }

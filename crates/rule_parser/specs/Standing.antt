@@ -54,6 +54,7 @@ pub record Behind (t : List ℕ) (s : Spot) (stack all : List ℕ) : Type 0 wher
 -- phase 3: the text is that of a formula
 pub record Finished (t : List ℕ) (s : Spot) (all : List ℕ) : Type 0 where
   pub whole : Formula
+  pub end : s .end ≡ length t
   pub count : s .count ≡ nodes whole
   pub noded : Noded (s .count) (nodesFrom 0 whole) all
   pub verdict : judge t ≡ formula whole

@@ -126,7 +126,7 @@ fn turn(text: &[u8], s: Spot, stack: &mut [u8], nodes: &mut [u8]) -> Spot
 // there is room for 64.
 pub fn read_nodes(text: &[u8], stack: &mut [u8], nodes: &mut [u8]) -> Read
     requires { ⌜ (length (now text) ≤ 4096) × (length (now text) ≤ length (now stack)) × (length (now nodes) ≡ 512) ⌝ }
-    ensures { λ r. ⌜ Reads (judge (now (text .entry))) r (now (nodes .exit)) × (r .place ≤ 4096) ⌝ }
+    ensures { λ r. ⌜ Reads (now (text .entry)) (judge (now (text .entry))) r (now (nodes .exit)) ⌝ }
 {
     let mut s = stand(START, 0, 0, 0);
     while s.phase < STOPPED {

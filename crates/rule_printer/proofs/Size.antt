@@ -4,19 +4,18 @@ use mathlib.Core.List.{List, [], _∷_, _++_}
 use Prim.Native.Nat.{ℕ, _+_, _*_, _≤_, _<_}
 use native.Mathlib.Omega.{arith}
 use lib.ListN.{length, getD, length-append}
-use Rattle.tctl.specs.Kind.{someRun, allRuns}
 use Rattle.tctl.specs.Formula.{Formula}
 use Rattle.decimal.proofs.Decimal.{decimal-size}
 use Rattle.rule_grammar.specs.Text.{text}
 use Rattle.rule_grammar.specs.Grammar.{InRange}
-use Rattle.rule_grammar.specs.Machine.{less, more, Join, conj, disj, until, openingOf, opening, sign, joinText, join}
+use Rattle.rule_grammar.specs.Machine.{less, more, Join, conj, disj, until, openingOf, opening, sign, joinText}
 use Rattle.rule_grammar.proofs.Seen.{JoinLive, join-text, join-range}
 use Rattle.rule.specs.Formula.{formulaOf}
 use Rattle.rule.specs.Refusals.{ruleRefusal}
 use Rattle.rule.proofs.Accepted.{accepted}
 use Rattle.rule_bytes.specs.RuleBytes.{nodes}
 use Rattle.rule_bytes.proofs.Tree.{formula-induction, join-nodes}
-use Rattle.rule_bytes.proofs.RoundTrip.{accepted-range}
+use Rattle.rule_bytes.proofs.Range.{accepted-range}
 use Rattle.rule_printer.proofs.NodeCount.{nodes-counted}
 
 -- before two operands and between them stand at most eleven bytes: `E(`, a space, `U<=` and five digits

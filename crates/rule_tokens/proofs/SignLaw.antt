@@ -1,5 +1,5 @@
 -- The sign behind the first of two operands is what the machine makes of the text there.
-use mathlib.Core.Path.{_≡_, refl, ap, _∙_}
+use mathlib.Core.Path.{_≡_, refl, _∙_}
 use mathlib.Core.Bool.{Bool, true, false}
 use mathlib.Core.List.{List, _∷_}
 use mathlib.Core.Option.{none}
@@ -13,17 +13,18 @@ use Rattle.tctl.specs.Kind.{Runs}
 use Rattle.tctl.specs.Formula.{Formula}
 use Rattle.rule_grammar.specs.Grammar.{fault}
 use Rattle.rule_grammar.specs.Machine.{Sign, less, more, Join, conj, disj, until, Opening, pair, timed, Context, opened, joined}
-use Rattle.rule_grammar.specs.Machine.{start, ended, spaced, awaited, compared, equalled, linked, State, at, step, done, whole}
-use Rattle.rule_grammar.specs.Machine.{after, further as further-step, from, digit, grows, grown, mostOf}
-use Rattle.rule_grammar.proofs.Seen.{digit-true}
+use Rattle.rule_grammar.specs.Machine.{start, ended, spaced, awaited, compared, equalled, linked, State, at, step, done}
+use Rattle.rule_grammar.specs.Machine.{after, further as further-step, from, mostOf}
+use Rattle.decimal.specs.Value.{isDigit as digit}
+use Rattle.decimal.proofs.DigitRange.{digit-true}
 use Rattle.rule_grammar.proofs.Complete.{digit-no-space}
-use Rattle.rule_grammar.proofs.From.{from-step, from-halt, from-same}
+use Rattle.rule_grammar.proofs.From.{from-step, from-halt}
 use Rattle.rule_bytes.specs.JoinNode.{numberOf}
 use Rattle.rule_numbers.specs.Byte.{byteIs}
 use Rattle.rule_numbers.specs.Number.{digitAt, further, numberFrom}
 use Rattle.rule_tokens.specs.Sign.{Signed, joins, unsigned, spaceFrom, limitFrom, equalFrom, boundFrom, signFrom, signOf}
 use Rattle.rule_numbers.proofs.Byte.{Span, inside-at, byte-not, byte-step, digit-not}
-use Rattle.rule_numbers.proofs.NumberLaw.{Grown, further-grown}
+use Rattle.rule_numbers.proofs.NumberLaw.{further-grown}
 
 -- c may have one digit
 nine-most : (g : Sign) (n : ℕ) → n ≤ 9 → n ≤ mostOf g

@@ -1,27 +1,27 @@
 -- The token where an operand starts is what the machine makes of the text there.
-use mathlib.Core.Path.{_≡_, refl, sym, ap, _∙_}
+use mathlib.Core.Path.{_≡_, refl, ap, _∙_}
 use mathlib.Core.Bool.{Bool, true, false}
 use mathlib.Core.List.{List, _∷_}
 use mathlib.Core.Option.{none}
 use Prim.Native.Nat.{ℕ, _+_, _-_, _≤_, _<_}
 use native.Mathlib.Omega.{arith}
 use lib.ListN.{length, getD, drop}
-use lib.Dec.{eqb, ltb}
+use lib.Dec.{ltb}
 use borrow.Author.Tests.{ltb-true, ne-eqb, eq-eqb}
 use Rattle.base.proofs.Truth.{and-iff, cond-elim}
 use Rattle.tctl.specs.Kind.{Runs, someRun, allRuns}
 use Rattle.tctl.specs.Formula.{always, label}
 use Rattle.rule_grammar.specs.Grammar.{fault}
 use Rattle.rule_grammar.specs.Machine.{Opening, pair, timed, Context, negated, opened, start, t as t₁, tr, tru, letter, labelled}
-use Rattle.rule_grammar.specs.Machine.{quantified, ended, State, at, step, done, whole, from, digit, grows}
-use Rattle.rule_grammar.proofs.Seen.{digit-true}
+use Rattle.rule_grammar.specs.Machine.{quantified, ended, State, at, step, done, from}
+use Rattle.decimal.specs.Value.{isDigit as digit}
+use Rattle.decimal.proofs.DigitRange.{digit-true}
 use Rattle.rule_grammar.proofs.From.{from-step, from-halt, from-same}
 use Rattle.rule_numbers.specs.Byte.{byteIs}
 use Rattle.rule_numbers.specs.Number.{digitAt, further, numberFrom}
-use Rattle.rule_tokens.specs.Start.{Start, truth, labels, negates, opens, nowhere, trueFrom, labelOf, labelFrom, bracketFrom, startOf}
-use Rattle.rule_numbers.specs.declared.Number.{Number}
+use Rattle.rule_tokens.specs.Start.{Start, truth, labels, negates, opens, nowhere, trueFrom, labelFrom, bracketFrom, startOf}
 use Rattle.rule_numbers.proofs.Byte.{Span, inside-at, byte-not, byte-step, digit-not}
-use Rattle.rule_numbers.proofs.NumberLaw.{Grown, further-grown}
+use Rattle.rule_numbers.proofs.NumberLaw.{further-grown}
 
 module _ (s : List ℕ) (K : List Context) where
   -- what the machine, at an operand's start, makes of the text from place i on

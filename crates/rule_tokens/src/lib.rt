@@ -5,7 +5,7 @@ ghost use lib.ListN.{length};
 ghost use Rattle.tctl.specs.Kind.{Runs};
 ghost use Rattle.rule_grammar.specs.Machine.{Join, Opening, Sign, pair, timed};
 ghost use Rattle.rule_bytes.specs.JoinNode.{numberOf};
-ghost use Rattle.rule_tokens.specs.Tags.{openTag, untilTag, joinTag};
+ghost use Rattle.rule_tokens.specs.Tags.{openTag, untilTag, joinTag, OfOpening, OfRuns, OfUntil, OfJoin};
 ghost use Rattle.rule_tokens.specs.Start.{token, startToken, trueFrom, labelFrom, bracketFrom, startOf};
 ghost use Rattle.rule_tokens.specs.Sign.{signToken, spaceFrom, equalFrom, boundFrom, signFrom, signOf};
 
@@ -72,7 +72,7 @@ fn label_from(text: &[u8], i: usize) -> Token
 
 // The bracket behind E or A.
 fn bracket_from(text: &[u8], i: usize, tag: u8) -> Token
-    requires { ⌜ i ≤ length (now text) ⌝ }
+    requires { ⌜ (i ≤ length (now text)) × OfRuns tag ⌝ }
     ensures { λ r. ⌜ ((q : Runs) → tag ≡ openTag (timed q) → r ≡ startToken (bracketFrom q (now (text .entry)) i)) ⌝ }
 {
     if rule_numbers::stands(text, i, b'(') {
@@ -109,7 +109,7 @@ pub fn start(text: &[u8], i: usize) -> Token
 
 // The space behind a sign.
 fn space_from(text: &[u8], i: usize, tag: u8, number: u32) -> Token
-    requires { ⌜ i ≤ length (now text) ⌝ }
+    requires { ⌜ (i ≤ length (now text)) × OfJoin tag number ⌝ }
     ensures { λ r. ⌜ ((j : Join) → tag ≡ joinTag j → number ≡ numberOf j →
         r ≡ signToken (spaceFrom j (now (text .entry)) i)) ⌝ }
 {
@@ -121,7 +121,7 @@ fn space_from(text: &[u8], i: usize, tag: u8, number: u32) -> Token
 
 // "=" and the number behind < or >.
 fn equal_from(text: &[u8], i: usize, tag: u8) -> Token
-    requires { ⌜ i ≤ length (now text) ⌝ }
+    requires { ⌜ (i ≤ length (now text)) × OfUntil tag ⌝ }
     ensures { λ r. ⌜ ((q : Runs) (s : Sign) → tag ≡ untilTag q s →
         r ≡ signToken (equalFrom q s (now (text .entry)) i)) ⌝ }
 {
@@ -137,7 +137,7 @@ fn equal_from(text: &[u8], i: usize, tag: u8) -> Token
 
 // The bound behind U.
 fn bound_from(text: &[u8], i: usize, opening: u8) -> Token
-    requires { ⌜ (i ≤ length (now text)) × (opening ≤ 6) ⌝ }
+    requires { ⌜ (i ≤ length (now text)) × (opening ≤ 6) × OfRuns opening ⌝ }
     ensures { λ r. ⌜ ((q : Runs) → opening ≡ openTag (timed q) → r ≡ signToken (boundFrom q (now (text .entry)) i)) ⌝ }
 {
     if rule_numbers::stands(text, i, b'<') {
@@ -165,7 +165,7 @@ fn pair_from(text: &[u8], i: usize) -> Token
 
 // The sign behind the first of two operands, by how they were opened.
 pub fn sign(text: &[u8], i: usize, opening: u8) -> Token
-    requires { ⌜ (i ≤ length (now text)) × (opening ≤ 6) ⌝ }
+    requires { ⌜ (i ≤ length (now text)) × (opening ≤ 6) × OfOpening opening ⌝ }
     ensures { λ r. ⌜ ((o : Opening) → opening ≡ openTag o → r ≡ signToken (signOf o (now (text .entry)) i)) ⌝ }
 {
     if rule_numbers::stands(text, i, b' ') {

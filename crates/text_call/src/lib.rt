@@ -25,15 +25,6 @@ fn report_text(rule: &[u8], out: &mut [u8]) -> usize
     append::put(b'\n', end, out)
 }
 
-// Reads desk.rul as the desk program does, and prints the line.
-fn print_text() {
-    let mut rule = [0; desk_call::RULE];
-    let size = desk_call::read(b"desk.rul", &mut rule);
-    let mut line = [0; LINE];
-    let printed = report_text(&rule[..size], &mut line);
-    io::write_all(libc::STDOUT_FILENO, &line[..printed]);
-}
-
 fn print_usage() {
     io::write_all(
         libc::STDERR_FILENO,
@@ -41,11 +32,15 @@ fn print_usage() {
     );
 }
 
-// No argument but the program's own name.
+// Reads desk.rul as the desk program does, and prints the line. There is no argument but the program's name.
 pub fn run() {
     if os::arg_count() != 1 {
         print_usage();
         return;
     }
-    print_text();
+    let mut rule = [0; desk_call::RULE];
+    let size = desk_call::read(b"desk.rul", &mut rule);
+    let mut line = [0; LINE];
+    let printed = report_text(&rule[..size], &mut line);
+    io::write_all(libc::STDOUT_FILENO, &line[..printed]);
 }

@@ -1,14 +1,15 @@
 -- What the answer of the call tells of what is written and printed.
-use mathlib.Core.Path.{_≡_, refl, subst}
+use mathlib.Core.Path.{_≡_, subst}
 use mathlib.Core.List.{List}
 use Prim.Native.Nat.{ℕ, _≤_}
 use lib.ListN.{length}
 use borrow.Author.Tests.{eq-eqb, ne-eqb}
 use Rattle.append.specs.Piece.{AtFront}
+use Rattle.append.proofs.Append.{at-front-none}
 use Rattle.outcome.specs.declared.Written.{Written}
 use Rattle.rule_grammar.specs.Grammar.{Verdict, Judged}
 use Rattle.call_read_rule.specs.Read.{writtenRule, ReadAs}
-use Rattle.typed_call.specs.Refused.{refusedText}
+use Rattle.typed_listing.specs.Refused.{refusedText}
 use Rattle.typed_call.specs.Answer.{ruleRoom, typed, outcomeOf, printedOf, Answers}
 use Rattle.typed_call.proofs.Enough.{answer-near}
 
@@ -43,7 +44,7 @@ module _
     pub accepted :
         {out : List ℕ} → r .outcome .number ≡ 0 →
         Answers input rule out (record { written = r .written; printed = 0 }) newRule out
-    accepted z = answers (rw (eq-eqb (r .outcome .number) 0 z) (record { end = refl; bytes = refl }))
+    accepted z = answers (rw (eq-eqb (r .outcome .number) 0 z) at-front-none)
 
     pub refused :
         {printed : ℕ} {out newOut : List ℕ} → ¬ (r .outcome .number ≡ 0) →

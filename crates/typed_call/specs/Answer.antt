@@ -11,7 +11,7 @@ use Rattle.outcome.specs.Refusal.{first}
 use Rattle.rule_grammar.specs.Grammar.{Verdict, Judged}
 use Rattle.call_read_rule.specs.Read.{readTable, writtenRule}
 use Rattle.typed_call.specs.declared.Typed.{Typed}
-use Rattle.typed_call.specs.Refused.{refusedText}
+use Rattle.typed_listing.specs.Refused.{refusedText}
 
 -- how many bytes of standard input are read
 abbrev pub inputRead : ℕ

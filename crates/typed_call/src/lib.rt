@@ -2,9 +2,7 @@
 ghost use mathlib.Core.Path.{_≡_};
 ghost use Prim.Native.Nat.{_+_, _≤_};
 ghost use lib.ListN.{length};
-ghost use Rattle.append.specs.Piece.{Room, Appended, AtFront};
 ghost use Rattle.io.specs.Counts.{Counts};
-ghost use Rattle.typed_call.specs.Refused.{shownByte, spaces, shownText, caretLine, refusedText};
 ghost use Rattle.typed_call.specs.Answer.{inputRead, ruleRoom, typed, Answers};
 
 // How many bytes of standard input are read: one more than the longest text and its newline have.
@@ -36,60 +34,6 @@ fn trimmed(input: &[u8]) -> &[u8]
     input
 }
 
-fn shown_byte(byte: u8) -> u8
-    ensures { λ r. ⌜ r ≡ shownByte byte ⌝ }
-{
-    if byte < b' ' || byte == 127 {
-        return b'?';
-    }
-    byte
-}
-
-fn put_shown(text: &[u8], at: usize, out: &mut [u8]) -> usize
-    requires { ⌜ Room at (shownText (now text)) (now out) ⌝ }
-    ensures { λ r. ⌜ Appended at (shownText (now (text .entry))) r (now (out .entry)) (now (out .exit)) ⌝ }
-{
-    let mut end = at;
-    let mut i = 0;
-    while i < text.len() {
-        end = append::put(shown_byte(text[i]), end, out);
-        i += 1;
-    }
-    end
-}
-
-fn put_spaces(count: usize, at: usize, out: &mut [u8]) -> usize
-    requires { ⌜ Room at (spaces count) (now out) ⌝ }
-    ensures { λ r. ⌜ Appended at (spaces count) r (now (out .entry)) (now (out .exit)) ⌝ }
-{
-    let mut end = at;
-    let mut i = 0;
-    while i < count {
-        end = append::put(b' ', end, out);
-        i += 1;
-    }
-    end
-}
-
-fn put_caret(place: usize, at: usize, out: &mut [u8]) -> usize
-    requires { ⌜ Room at (caretLine place) (now out) ⌝ }
-    ensures { λ r. ⌜ Appended at (caretLine place) r (now (out .entry)) (now (out .exit)) ⌝ }
-{
-    let spaced = put_spaces(place, at, out);
-    append::put_word(b"^\n", spaced, out)
-}
-
-// What is printed of a refusal.
-fn put_refusal(number: u32, place: u32, text: &[u8], out: &mut [u8]) -> usize
-    requires { ⌜ 33 + length (now text) + 1 + place + 2 ≤ length (now out) ⌝ }
-    ensures { λ r. ⌜ AtFront (refusedText number place (now (text .entry))) r (now (out .entry)) (now (out .exit)) ⌝ }
-{
-    let lined = listing::refuse(number, place, out);
-    let shown = put_shown(text, lined, out);
-    let ended = append::put(b'\n', shown, out);
-    put_caret(place as usize, ended, out)
-}
-
 // The rule of an input, or the text that is printed of its refusal.
 fn answer(input: &[u8], rule: &mut [u8], out: &mut [u8]) -> Typed
     requires { ⌜ (length (now rule) ≡ ruleRoom) × (33 + length (now input) + 1 + 4096 + 2 ≤ length (now out)) ⌝ }
@@ -106,7 +50,7 @@ fn answer(input: &[u8], rule: &mut [u8], out: &mut [u8]) -> Typed
             printed: 0,
         };
     }
-    let printed = put_refusal(refused.number, refused.place, text, out);
+    let printed = typed_listing::refuse_text(refused.number, refused.place, text, out);
     Typed { written, printed }
 }
 
@@ -142,8 +86,19 @@ fn save(rule: &[u8]) {
     );
 }
 
-// Reads a text, and writes desk.rul or prints what is wrong with the text.
-fn answer_input() {
+fn print_usage() {
+    io::write_all(
+        libc::STDERR_FILENO,
+        b"usage: desk_rule\nIt reads a rule's text from standard input and writes desk.rul here.\nOne last newline is not part of the text.\n",
+    );
+}
+
+// Reads a text, and writes desk.rul or prints what is wrong with the text. There is no argument but the program's name.
+pub fn run() {
+    if os::arg_count() != 1 {
+        print_usage();
+        return;
+    }
     let mut input = [0; INPUT];
     let mut rule = [0; RULE];
     let mut text = [0; TEXT];
@@ -155,20 +110,4 @@ fn answer_input() {
     if written != 0 {
         save(&rule[..written]);
     }
-}
-
-fn print_usage() {
-    io::write_all(
-        libc::STDERR_FILENO,
-        b"usage: desk_rule\nIt reads a rule's text from standard input and writes desk.rul here.\nOne last newline is not part of the text.\n",
-    );
-}
-
-// No argument but the program's own name.
-pub fn run() {
-    if os::arg_count() != 1 {
-        print_usage();
-        return;
-    }
-    answer_input();
 }

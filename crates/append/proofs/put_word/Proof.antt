@@ -1,12 +1,12 @@
 -- Invariant: the first i bytes of the word are there.
-use mathlib.Core.Path.{_≡_, sym, ap, subst, _∙_}
+use mathlib.Core.Path.{_≡_, sym, ap, _∙_}
 use mathlib.Core.List.{List, [], _∷_, _++_}
 use Prim.Native.Nat.{ℕ, suc, _+_, _-_, _≤_, _<_}
 use native.Mathlib.Omega.{arith}
 use lib.ListN.{length, getD, take, length-take}
 use lib.Seq.{take-suc, take-length}
 use denote.Ref.{now}
-use Rattle.append.specs.Piece.{Room, Appended}
+use Rattle.append.specs.Piece.{Appended}
 use Rattle.append.proofs.Append.{appended-none, appended-both, appended-size, appended-text, room-second}
 use Rattle.append.proofs.put_word.Statement.{statement}
 use Rattle.append.proofs.put_word.Tie as tie

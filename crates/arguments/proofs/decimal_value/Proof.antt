@@ -6,8 +6,9 @@ use native.Mathlib.Omega.{arith}
 use lib.ListN.{length, drop}
 use denote.Ref.{now}
 use borrow.Author.Tests.{not-true, not-false}
+use Rattle.decimal.proofs.DigitRange.{digit-true}
 use Rattle.arguments.specs.Argument.{outOfRange, numberFrom, argumentOf}
-use Rattle.arguments.proofs.Number.{digit-range, argument-empty, argument-number}
+use Rattle.arguments.proofs.Number.{argument-empty, argument-number}
 use Rattle.arguments.proofs.Number.{number-more, number-other, number-done}
 use Rattle.arguments.proofs.decimal_value.Statement.{statement}
 use Rattle.arguments.proofs.decimal_value.Tie as tie
@@ -46,8 +47,8 @@ returns-2 c =
 with-digit-requires : tie.Need-with-digit-requires Inv-loop μ-loop
 with-digit-requires c κs =
     let at-loop = inside (c .before) .before in
-    let range = digit-range _ (sym (c .before .is-digit .ensures) ∙ not-false _ (c .if2 .left)) in
-    (at-loop .loop .inv .1, range .0, range .1)
+    let range = digit-true _ (sym (c .before .is-digit .ensures) ∙ not-false _ (c .if2 .left)) in
+    (at-loop .loop .inv .1, range .low, range .high)
 
 loop-again : tie.Need-loop-again Inv-loop μ-loop
 loop-again c =

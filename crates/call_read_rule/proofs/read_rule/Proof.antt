@@ -1,10 +1,8 @@
 -- Each refusal in its turn; past them the rule is written out.
-use mathlib.Core.Path.{_≡_, refl, sym, ap, _∙_}
 use native.Mathlib.Omega.{arith}
-use denote.Ref.{now}
 use borrow.Author.Needs.{needs}
 use Rattle.rule_grammar.proofs.Judged.{judged}
-use Rattle.call_read_rule.proofs.Answer.{too-long, no-text, too-many, too-short, taken, rule-fits}
+use Rattle.call_read_rule.proofs.Answer.{place-inside, too-long, no-text, too-many, too-short, taken, rule-fits}
 use Rattle.call_read_rule.proofs.read_rule.Statement.{statement}
 use Rattle.call_read_rule.proofs.read_rule.Tie as tie
 
@@ -16,6 +14,9 @@ abbrev read : tie.After-struct-known → tie.After-read-text
 read c = c .before .before
 
 -- the tests that it met, one after another
+abbrev faulty : tie.After-struct-known2 → tie.Then2
+faulty c = c .before
+
 abbrev fault : tie.After-refused2 → tie.Then2
 fault c = c .before .before
 
@@ -34,17 +35,23 @@ written c = c .before .before .before
 returns : tie.Need-returns
 returns c = too-long _ _ (judged _) (c .before .if1 .taken) (c .refused .ensures)
 
+cast-place : tie.Need-cast-refused
+cast-place c =
+    let text = read (faulty c .before) in
+    let inside = place-inside (judged _) (text .read-text .ensures) in
+    omega (arith, inside, short text .if1 .left)
+
 returns-2 : tie.Need-returns-2
 returns-2 c =
     let then = fault c in
     let text = read (then .before) in
-    no-text _ _ (short text .if1 .left) (judged _) (text .read-text .ensures .0) (then .if2 .taken) (c .refused2 .ensures)
+    no-text _ _ (short text .if1 .left) (judged _) (text .read-text .ensures) (then .if2 .taken) (c .refused2 .ensures)
 
 returns-3 : tie.Need-returns-3
 returns-3 c =
     let then = c .before in
     let text = read (whole (then .before) .before) in
-    too-many _ _ (short text .if1 .left) (judged _) (text .read-text .ensures .0) (then .if3 .taken) (c .refused3 .ensures)
+    too-many _ _ (short text .if1 .left) (judged _) (text .read-text .ensures) (then .if3 .taken) (c .refused3 .ensures)
 
 returns-4 : tie.Need-returns-4
 returns-4 c =
@@ -52,7 +59,7 @@ returns-4 c =
     let three = few (then .before) in
     let two = whole (three .before) in
     let text = read (two .before) in
-    too-short _ _ (short text .if1 .left) (judged _) (text .read-text .ensures .0) (two .if2 .left) (three .if3 .left)
+    too-short _ _ (short text .if1 .left) (judged _) (text .read-text .ensures) (two .if2 .left) (three .if3 .left)
     (then .if4 .taken) (c .refused4 .ensures)
 
 put-requires : tie.Need-put-rule-requires
@@ -70,12 +77,12 @@ returns-5 c =
     let three = few (four .before) in
     let two = whole (three .before) in
     let text = read (two .before) in
-    taken _ _ (short text .if1 .left) (judged _) (text .read-text .ensures .0) (two .if2 .left) (three .if3 .left)
+    taken _ _ (short text .if1 .left) (judged _) (text .read-text .ensures) (two .if2 .left) (three .if3 .left)
     (four .if4 .left) (c .accepted .ensures) (put .put-rule .ensures)
 
 pub read-rule-spec : {M : Type 1} → statement M
 read-rule-spec =
     tie.close
-    (tie.spec (λ c κs. search needs) returns (λ c. search needs) (λ c κs. search needs) (λ c. search needs)
+    (tie.spec (λ c κs. search needs) returns (λ c. search needs) (λ c κs. search needs) cast-place
     (λ c κs. search needs) returns-2 (λ c κs. search needs) returns-3 (λ c. search needs) (λ c. search needs)
     (λ c κs. search needs) returns-4 (λ c. search needs) put-requires (λ c κs. search needs) (λ c. search needs) returns-5)

@@ -4,8 +4,8 @@ use mathlib.Core.Bool.{true}
 use native.Mathlib.Omega.{arith}
 use borrow.Author.Tests.{lt-ltb, le-ltb}
 use borrow.Author.Needs.{needs}
-use Rattle.rule_grammar.specs.Machine.{digit}
-use Rattle.rule_grammar.proofs.Seen.{Digit, digit-true}
+use Rattle.decimal.specs.Value.{isDigit as digit}
+use Rattle.decimal.proofs.DigitRange.{Digit, digit-true}
 use Rattle.rule_numbers.proofs.grows.Statement.{statement}
 use Rattle.rule_numbers.proofs.grows.Tie as tie
 

@@ -1,13 +1,11 @@
 -- A digit and those behind it, or none.
-use mathlib.Core.Path.{_≡_, sym, _∙_}
-use mathlib.Core.Bool.{true}
+use mathlib.Core.Path.{sym, _∙_}
 use native.Mathlib.Omega.{arith}
 use lib.ListN.{getD}
 use denote.Ref.{now}
 use borrow.Author.Tests.{lt-ltb, le-ltb}
 use borrow.Author.Needs.{needs}
-use Rattle.rule_grammar.specs.Machine.{digit}
-use Rattle.rule_grammar.proofs.Seen.{Digit, digit-true}
+use Rattle.decimal.proofs.DigitRange.{Digit, digit-true}
 use Rattle.rule_numbers.specs.Number.{numberFrom}
 use Rattle.rule_numbers.proofs.number_from.Statement.{statement}
 use Rattle.rule_numbers.proofs.number_from.Tie as tie

@@ -1,10 +1,10 @@
 -- Each case of what is open around the operand.
-use mathlib.Core.Path.{_≡_, sym, _∙_}
+use mathlib.Core.Path.{sym, _∙_}
 use Prim.Native.Nat.{_≤_}
 use native.Mathlib.Omega.{arith}
 use borrow.Author.Needs.{needs}
 use Rattle.rule_parser.proofs.Around.{one-node}
-use Rattle.rule_parser.proofs.BehindTurn.{finished, negated-one, opening-low, unsigned-one, number-small, room-kept}
+use Rattle.rule_parser.proofs.BehindTurn.{finished, negated-one, opening-low, opening-of, unsigned-one, number-small, room-kept}
 use Rattle.rule_parser.proofs.BehindTurn.{signed-one, four-deep, closed-one, open-one}
 use Rattle.rule_parser.proofs.behind_turn.Statement.{statement}
 use Rattle.rule_parser.proofs.behind_turn.Tie as tie
@@ -99,6 +99,7 @@ sign-requires c κs =
     let s = start one in (
       s .pre .1 .read,
       opening-low _ _ _ _ (s .pre .0) (s .pre .1) (one .if1 .left) (else .if2 .left) (c .if3 .taken),
+      opening-of _ _ _ _ (s .pre .0) (s .pre .1) (one .if1 .left) (else .if2 .left) (c .if3 .taken),
     )
 
 returns-3 : tie.Need-returns-3

@@ -1,12 +1,10 @@
 -- Invariant: what is still to be read is read from where reading stands. Each turn comes further in the text, or has less
 -- open, or is the last.
 use mathlib.Core.Path.{_≡_, refl, subst, sym, _∙_}
-use mathlib.Core.Bool.{cond}
-use mathlib.Core.List.{List, []}
-use Prim.Native.Nat.{ℕ, suc, _+_, _-_, _*_, _≤_, _<_}
+use mathlib.Core.List.{[]}
+use Prim.Native.Nat.{_-_}
 use native.Mathlib.Omega.{arith}
 use lib.ListN.{length}
-use lib.Dec.{ltb}
 use denote.Ref.{now}
 use borrow.Author.Needs.{needs}
 use Rattle.rule_parser.specs.declared.Spot.{Spot}
@@ -71,16 +69,10 @@ loop-again c =
     ((h .standing, h .within), turn .kept .1 .1 .0 ∙ inv .1, turn .kept .1 .1 .1 .0 ∙ inv .2)
 
 returns : tie.Need-returns Inv-loop μ-loop
-returns c =
-    let inv = last (c .before) .loop .inv in
-    (read-whole (inv .0 .0) (c .if2 .taken), omega (arith, inv .0 .1 .read, inv .0 .1 .short))
+returns c = read-whole (last (c .before) .loop .inv .0 .0) (c .if2 .taken)
 
 returns-2 : tie.Need-returns-2 Inv-loop μ-loop
-returns-2 c =
-    let inv = last (c .before) .loop .inv in (
-      read-fault (inv .0 .0) (over (c .before) .if1 .left) (c .if2 .left),
-      omega (arith, inv .0 .1 .read, inv .0 .1 .short),
-    )
+returns-2 c = read-fault (last (c .before) .loop .inv .0 .0) (over (c .before) .if1 .left) (c .if2 .left)
 
 pub read-nodes-spec : {M : Type 1} → statement M
 read-nodes-spec =

@@ -1,15 +1,8 @@
 -- Each token, as the machine takes it.
-use mathlib.Core.Path.{_≡_, refl, sym, ap, subst, _∙_}
-use mathlib.Core.List.{List, [], _∷_}
-use Prim.Native.Nat.{ℕ, _+_, _%_, _≤_, _<_}
-use native.Mathlib.Omega.{arith}
-use lib.ListN.{length, set}
-use denote.Ref.{now}
+use mathlib.Core.List.{[]}
 use borrow.Author.Needs.{needs}
-use Rattle.rule_tokens.specs.Start.{Start, startOf, startToken}
-use Rattle.rule_tokens.specs.declared.Token.{Token}
+use Rattle.rule_tokens.specs.Start.{Start}
 use Rattle.rule_stack.specs.Open.{put}
-use Rattle.rule_parser.specs.Standing.{spot, Starting, Within, Turned}
 use Rattle.rule_parser.proofs.StartTurn.{stopped, leaf, pushed, room-above}
 use Rattle.rule_parser.proofs.start_turn.Statement.{statement}
 use Rattle.rule_parser.proofs.start_turn.Tie as tie

@@ -1,5 +1,5 @@
 -- Which of the two signs.
-use mathlib.Core.Path.{_≡_, refl, sym, ap, _∙_}
+use mathlib.Core.Path.{sym, ap, _∙_}
 use Prim.Native.Nat.{ℕ, _+_, _*_}
 use native.Mathlib.Omega.{arith}
 use borrow.Author.Needs.{needs}
@@ -7,9 +7,28 @@ use Rattle.rule_grammar.specs.Machine.{less, more}
 use Rattle.rule_tokens.proofs.bound_from.Statement.{statement}
 use Rattle.rule_tokens.proofs.bound_from.Tie as tie
 
--- where no < stands
+-- the start, and where no < stands
+abbrev start : tie.After-stands → tie.Start
+start c = c .before .before
+
 abbrev no-less : tie.After-stands2 → tie.Else1
 no-less c = c .before
+
+less-requires : tie.Need-equal-from-requires
+less-requires c κs =
+    let of = start (c .before) .pre .2 in
+    (
+      omega (arith, c .before .stands .ensures .1 (c .if1 .taken)),
+      record { runs = of .runs; sign = less; same = ap (λ (x : ℕ). 8 * x + 1) (of .same) },
+    )
+
+more-requires : tie.Need-equal-from-requires-2
+more-requires c κs =
+    let of = start (no-less (c .before) .before) .pre .2 in
+    (
+      omega (arith, c .before .stands2 .ensures .1 (c .if2 .taken)),
+      record { runs = of .runs; sign = more; same = ap (λ (x : ℕ). 8 * x + 2) (of .same) },
+    )
 
 returns : tie.Need-returns
 returns c q e =
@@ -35,6 +54,6 @@ pub bound-from-spec : {M : Type 1} → statement M
 bound-from-spec =
     tie.close
     (tie.spec (λ c κs. search needs) (λ c. search needs) (λ c. search needs) (λ c. search needs)
-    (λ c κs. omega (arith, c .before .stands .ensures .1 (c .if1 .taken))) returns (λ c κs. search needs)
+    less-requires returns (λ c κs. search needs)
     (λ c. search needs) (λ c. search needs) (λ c. search needs)
-    (λ c κs. omega (arith, c .before .stands2 .ensures .1 (c .if2 .taken))) returns-2 (λ c κs. search needs) returns-3)
+    more-requires returns-2 (λ c κs. search needs) returns-3)

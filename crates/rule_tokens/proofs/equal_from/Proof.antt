@@ -36,18 +36,27 @@ equal c = sym (c .before .stands .ensures .0) ∙ c .if1 .taken
 number-requires : tie.Need-number-from-requires
 number-requires c κs = (omega arith, omega arith, omega (arith, c .before .stands .ensures .1 (c .if1 .taken)))
 
-space-requires : tie.Need-space-from-requires
-space-requires c κs =
-    let n = number c in
-    let l = found (n .before) .stands .ensures .1 (n .before .if1 .taken) in
-    rw (n .number-from .ensures) (number-ends 65535 _ _ (omega (arith, l)))
-
 -- the tag of an until does not depend on c
 until-tag : (q : Runs) (s : Sign) (c : ℕ) → untilTag q s ≡ joinTag (until q s c)
 until-tag someRun less c = refl
 until-tag someRun more c = refl
 until-tag allRuns less c = refl
 until-tag allRuns more c = refl
+
+space-requires : tie.Need-space-from-requires
+space-requires c κs =
+    let n = number c in
+    let l = found (n .before) .stands .ensures .1 (n .before .if1 .taken) in
+    let of = start (found (n .before)) .pre .1 in
+    let v = n .number-from .result .value in
+    (
+      rw (n .number-from .ensures) (number-ends 65535 _ _ (omega (arith, l))),
+      record {
+        join = until (of .runs) (of .sign) v;
+        same = of .same ∙ until-tag (of .runs) (of .sign) v;
+        same-number = refl;
+      },
+    )
 
 -- and its c is at most 65,535 with either sign
 either-most : (q : Runs) (s : Sign) (t : List ℕ) (i : ℕ) → limitFrom q s t i ≡ limitOf q s t i (numberFrom 65535 t i)

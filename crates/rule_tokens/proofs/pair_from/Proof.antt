@@ -1,6 +1,5 @@
 -- Which of the two signs.
 use mathlib.Core.Path.{refl, sym, _∙_}
-use mathlib.Core.Bool.{true}
 use native.Mathlib.Omega.{arith}
 use borrow.Author.Needs.{needs}
 use Rattle.rule_grammar.specs.Machine.{conj, disj}
@@ -34,6 +33,6 @@ pub pair-from-spec : {M : Type 1} → statement M
 pair-from-spec =
     tie.close
     (tie.spec (λ c κs. search needs) (λ c. search needs) (λ c. search needs)
-    (λ c κs. omega (arith, c .before .stands .ensures .1 (c .if1 .taken))) returns (λ c κs. search needs)
-    (λ c. search needs) (λ c. search needs) (λ c κs. omega (arith, c .before .stands2 .ensures .1 (c .if2 .taken)))
+    (λ c κs. (omega (arith, c .before .stands .ensures .1 (c .if1 .taken)), record { join = conj; same = refl; same-number = refl })) returns (λ c κs. search needs)
+    (λ c. search needs) (λ c. search needs) (λ c κs. (omega (arith, c .before .stands2 .ensures .1 (c .if2 .taken)), record { join = disj; same = refl; same-number = refl }))
     returns-2 (λ c κs. search needs) returns-3)

@@ -1,11 +1,13 @@
 -- The space before the sign, then the sign.
-use mathlib.Core.Path.{_≡_, refl, sym, _∙_}
+use mathlib.Core.Path.{_≡_, sym, _∙_}
 use mathlib.Core.Bool.{true}
+use Prim.Native.Nat.{ℕ}
 use native.Mathlib.Omega.{arith}
 use denote.Ref.{now}
 use borrow.Author.Needs.{needs}
 use Rattle.tctl.specs.Kind.{someRun, allRuns}
-use Rattle.rule_grammar.specs.Machine.{pair, timed}
+use Rattle.rule_grammar.specs.Machine.{Opening, pair, timed}
+use Rattle.rule_tokens.specs.Tags.{openTag, OfOpening, OfRuns}
 use Rattle.rule_numbers.specs.Byte.{byteIs}
 use Rattle.rule_tokens.specs.Sign.{signOf}
 use Rattle.rule_tokens.proofs.sign.Statement.{statement}
@@ -30,6 +32,14 @@ bound-at c = c .before .before
 abbrev none-at : tie.After-none → tie.After-stands2
 none-at c = c .before .before
 
+-- an opening that is no pair is of runs
+of-runs : (tag : ℕ) → ¬ (tag ≡ 3) → OfOpening tag → OfRuns tag
+of-runs tag n h = turn (h .opening) (h .same)
+  where
+    turn : (o : Opening) → tag ≡ openTag o → OfRuns tag
+    turn pair e = absurd (n e)
+    turn (timed q) e = record { runs = q; same = e }
+
 space : (c : tie.Then1) → byteIs (now (start (c .before) .args .text)) (start (c .before) .args .i) 32 ≡ true
 space c = sym (c .before .stands .ensures .0) ∙ c .if1 .taken
 
@@ -46,7 +56,11 @@ returns c (timed allRuns) e = absurd (let z : ⊥ = omega (arith, e, c .before .
 bound-requires : tie.Need-bound-from-requires
 bound-requires c κs =
     let here = start (spaced (timed-at (c .before)) .before) in
-    (omega (arith, c .before .stands2 .ensures .1 (c .if3 .taken)), here .pre .1)
+    (
+      omega (arith, c .before .stands2 .ensures .1 (c .if3 .taken)),
+      here .pre .1,
+      of-runs _ (timed-at (c .before) .if2 .left) (here .pre .2),
+    )
 
 returns-2 : tie.Need-returns-2
 unfolding signOf

@@ -1,5 +1,5 @@
 -- The first of the six bytes that stands there decides.
-use mathlib.Core.Path.{_≡_, refl, sym, _∙_}
+use mathlib.Core.Path.{refl, sym, _∙_}
 use native.Mathlib.Omega.{arith}
 use borrow.Author.Needs.{needs}
 use Rattle.tctl.specs.Kind.{someRun, allRuns}
@@ -126,6 +126,6 @@ start-spec =
     (λ c. search needs) (λ c κs. omega (arith, c .before .stands2 .ensures .1 (c .if2 .taken))) returns-2
     (λ c κs. search needs) (λ c. search needs) (λ c κs. search needs) returns-3 (λ c κs. search needs) (λ c. search needs)
     (λ c κs. search needs) returns-4 (λ c κs. search needs) (λ c. search needs)
-    (λ c κs. omega (arith, c .before .stands5 .ensures .1 (c .if5 .taken))) returns-5 (λ c κs. search needs)
-    (λ c. search needs) (λ c κs. omega (arith, c .before .stands6 .ensures .1 (c .if6 .taken))) returns-6
+    (λ c κs. (omega (arith, c .before .stands5 .ensures .1 (c .if5 .taken)), record { runs = someRun; same = refl })) returns-5 (λ c κs. search needs)
+    (λ c. search needs) (λ c κs. (omega (arith, c .before .stands6 .ensures .1 (c .if6 .taken)), record { runs = allRuns; same = refl })) returns-6
     (λ c κs. search needs) returns-7)

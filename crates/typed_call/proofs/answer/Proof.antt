@@ -19,7 +19,7 @@ text c = c .before .before
 abbrev read : tie.After-struct-known → tie.After-read-rule
 read c = c .before .before .before .before
 
-abbrev printed : tie.After-slice-known4 → tie.After-put-refusal
+abbrev printed : tie.After-slice-known4 → tie.After-refuse-text
 printed c = c .before .before
 
 returns : tie.Need-returns
@@ -28,8 +28,8 @@ returns c =
     let t = text call in
     accepted _ _ (t .trimmed .ensures) (start t .pre .0) (call .read-rule .ensures) (c .if1 .taken)
 
-put-refusal-requires : tie.Need-put-refusal-requires
-put-refusal-requires c κs =
+refuse-text-requires : tie.Need-refuse-text-requires
+refuse-text-requires c κs =
     let test = c .before in
     let call = read (test .before) in
     let t = text call in
@@ -45,10 +45,10 @@ returns-2 c =
     let call = read (test .before) in
     let t = text call in
     refused _ _ (t .trimmed .ensures) (start t .pre .0) (call .read-rule .ensures) (test .if1 .left)
-    (printed c .put-refusal .ensures)
+    (printed c .refuse-text .ensures)
 
 pub answer-spec : {M : Type 1} → statement M
 answer-spec =
     tie.close
-    (tie.spec (λ c κs. search needs) (λ c κs. search needs) (λ c. search needs) returns put-refusal-requires
+    (tie.spec (λ c κs. search needs) (λ c κs. search needs) (λ c. search needs) returns refuse-text-requires
     (λ c. search needs) (λ c. search needs) returns-2)

@@ -1,4 +1,4 @@
-//! Read: what the readings of paper 5 say of single texts, and 64 beside neighbours that pass.
+//! Read: what paper 5 say of single texts, and 64 beside neighbours that pass.
 
 use crate::bytes::rule::{node, plain, Node, A, AND, E, LABEL, NOT, OR, TRUE};
 use crate::named::charts::List;
@@ -55,7 +55,7 @@ fn forms(list: &mut List) {
     }
 }
 
-/// Judged digit by digit (5.1, 5.8).
+/// Judged digit by digit.
 fn numbers(list: &mut List) {
     for number in 0..=15 {
         taken(list, &format!("L{number}"), vec![label(number)]);
@@ -83,7 +83,7 @@ fn numbers(list: &mut List) {
     stops(list, "A(true U<=6553", 14);
 }
 
-/// One on each side of &, | and the until with its bound, none elsewhere (5.7).
+/// One on each side of &, | and the until with its bound, none elsewhere.
 fn spaces(list: &mut List) {
     for (text, place) in [
         (" true", 0),
@@ -135,7 +135,7 @@ fn words(list: &mut List) {
         ("E(L0 U=<3 L1)", 6),
         ("E(L0 U<==3 L1)", 8),
         ("E(L0 U<=>3 L1)", 8),
-        // Exact bounds are another paper's (5.9).
+        // Exact bounds are another paper's.
         ("A(true U==14 L2)", 8),
         ("A(true U=14 L2)", 8),
     ] {
@@ -143,7 +143,7 @@ fn words(list: &mut List) {
     }
 }
 
-/// Bytes behind a formula, and texts that only stop early (5.3).
+/// Bytes behind a formula, and texts that only stop early.
 fn ends(list: &mut List) {
     stops(list, "", 0);
     for behind in [" ", "\n", "\r\n", "\0", ")", "!", "true", " & true"] {
@@ -157,7 +157,7 @@ fn ends(list: &mut List) {
     add(list, "64 passed: the whole of it", read(whole, ROOM), Expected::Outcome(0, 0));
 }
 
-/// Any byte may occur (5.11): where a formula begins, behind one, and in a bound.
+/// Any byte may occur: where a formula begins, behind one, and in a bound.
 fn bytes(list: &mut List) {
     for byte in 0..=255 {
         let begins = b"tL!(EA".contains(&byte);
@@ -168,7 +168,7 @@ fn bytes(list: &mut List) {
     }
 }
 
-/// The left operand whole, then the right one, then the node (5.6).
+/// The left operand whole, then the right one, then the node.
 fn left_first(list: &mut List) {
     let (left, right) = ([label(0), label(1), plain(AND, 0, 1)], [label(2), plain(NOT, 3, 0), plain(OR, 2, 4)]);
     taken(list, "((L0 & L1) | !L2)", [left, right].concat());

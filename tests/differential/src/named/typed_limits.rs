@@ -9,7 +9,7 @@ fn answers(list: &mut List, name: &str, text: impl AsRef<[u8]>, output: usize, n
     add(list, name, read(text, output), Expected::Outcome(number, place as u32));
 }
 
-/// Above 4,096 bytes, whatever they are (5.4).
+/// Above 4,096 bytes, whatever they are.
 fn bytes(list: &mut List) {
     for (what, byte) in [("?", b'?'), ("!", b'!'), ("byte 255", 255)] {
         let place = if byte == b'!' { 4_096 } else { 0 };
@@ -23,7 +23,7 @@ fn bytes(list: &mut List) {
     answers(list, "row 65 passed: true and 4,092 spaces", behind, 519, 64, 4);
 }
 
-/// Only a whole text of the grammar has nodes to count (5.2).
+/// Only a whole text of the grammar has nodes to count.
 fn nodes(list: &mut List) {
     add(list, "row 65 passed: 64 nodes", read(under_nots(b"true", 67), 519), Expected::Nodes(nots(64)));
     answers(list, "row 65: 65 nodes", under_nots(b"true", 68), 519, 65, 0);
@@ -43,7 +43,7 @@ fn longest() -> Vec<u8> {
     crate::bytes::text::text(&longest_of_64())
 }
 
-/// A text may nest as deep as it is long (5.10).
+/// A text may nest as deep as it is long.
 fn deep(list: &mut List) {
     answers(list, "4,096 brackets", vec![b'('; 4_096], 519, 64, 4_096);
     answers(list, "2,048 times A(", "A(".repeat(2_048), 519, 64, 4_096);
@@ -61,7 +61,7 @@ fn deep(list: &mut List) {
     }
 }
 
-/// 7 + 8k bytes of output are just enough (5.5).
+/// 7 + 8k bytes of output are just enough.
 fn outputs(list: &mut List) {
     for (text, wanted) in [("true", 15), ("!L15", 23), ("A(true U<=14 L2)", 31)] {
         for output in [wanted, wanted + 1, wanted + 40, 519] {

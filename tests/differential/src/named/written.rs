@@ -39,7 +39,7 @@ fn forms(list: &mut List) {
     }
 }
 
-/// The right operand may stand first, or between the parts of the left one (5.6).
+/// The right operand may stand first, or between the parts of the left one.
 fn orders(list: &mut List) {
     told(list, &[label(1), yes(), plain(AND, 1, 0)], "(true & L1)");
     told(list, &[label(2), yes(), node(A, 1, 1, 0, 14)], "A(true U<=14 L2)");

@@ -1,5 +1,6 @@
-//! Rules typed as text and written back, by number: case i depends on the seed and i alone. In each row of 256 one
-//! formula is read, as it is and with one edit after the other, or 256 rules are written.
+//! Rules typed as text and written back, by number: case i depends on the seed and i alone. A row has rules that are
+//! written, or small formulas, each read as it is and with one edit after the other, or one large formula with an edit
+//! of every kind at every position.
 
 use crate::bytes::text::text;
 use crate::cases::case::Case;
@@ -10,49 +11,60 @@ use crate::random::long_texts;
 use crate::random::rng::Rng;
 use crate::random::written;
 
-const ROW: u64 = 256;
+/// The cases of a row, and of a small formula in it: enough for three edits at each of 682 and of 84 positions.
+const ROW: u64 = 2_048;
+const PART: u64 = 256;
 
-/// How many nodes the formula of a row has; none in a row of rules that are written.
-fn nodes(rng: &mut Rng) -> Option<usize> {
-    match rng.below(10) {
-        0 | 1 => None,
-        2..=6 => Some(rng.within(1, 9)),
-        7 => Some(rng.within(10, 64)),
-        8 => Some(rng.within(60, 70)),
-        _ => Some(rng.within(65, 110)),
-    }
+enum Row {
+    Written,
+    Small,
+    Large(usize),
 }
 
-/// Every second row ends with a text about the limits.
-fn is_long(row: u64, place: u64) -> bool {
-    place + 1 == ROW && row % 2 == 0
+fn row_of(rng: &mut Rng) -> Row {
+    match rng.below(10) {
+        0 | 1 => Row::Written,
+        2..=6 => Row::Small,
+        7 => Row::Large(rng.within(10, 64)),
+        8 => Row::Large(rng.within(60, 70)),
+        _ => Row::Large(rng.within(65, 110)),
+    }
 }
 
 fn read(rng: &mut Rng, text: Vec<u8>, nodes: usize) -> Case {
     Case::Read { text, output: lent(rng, 7 + 8 * nodes) }
 }
 
-pub fn random(seed: u64, number: u64) -> Case {
-    let (row, place) = (number / ROW, number % ROW);
-    let (row_rng, rng) = (&mut Rng::of_case(seed, row), &mut Rng::of_case(!seed, number));
-    if is_long(row, place) {
+/// The formula, then its edits; the last of so many cases is a text about the limits.
+fn read_edited(formula_rng: &mut Rng, rng: &mut Rng, size: usize, place: u64, cases: u64) -> Case {
+    if place + 1 == cases {
         let text = long_texts::random(rng);
         return read(rng, text, 64);
     }
-    let Some(size) = nodes(row_rng) else {
-        return written::random(rng);
-    };
-    let formula = text(&formulas::random(row_rng, size));
+    let formula = text(&formulas::random(formula_rng, size));
     let text = match place {
         0 => formula,
-        _ => edits::numbered(rng, &formula, place as usize - 1, ROW as usize - 1),
+        _ => edits::numbered(rng, &formula, place as usize - 1, cases as usize - 2),
     };
     read(rng, text, size)
 }
 
+pub fn random(seed: u64, number: u64) -> Case {
+    let (row_rng, rng) = (&mut Rng::of_case(seed, number / ROW), &mut Rng::of_case(!seed, number));
+    match row_of(row_rng) {
+        Row::Written => written::random(rng),
+        Row::Small => {
+            let part_rng = &mut Rng::of_case(seed ^ ROW, number / PART);
+            let size = part_rng.within(1, 9);
+            read_edited(part_rng, rng, size, number % PART, PART)
+        }
+        Row::Large(size) => read_edited(row_rng, rng, size, number % ROW, ROW),
+    }
+}
+
 #[cfg(test)]
 mod tests {
-    use super::{random, ROW};
+    use super::{random, PART, ROW};
     use crate::cases::case::Case;
 
     #[test]
@@ -62,9 +74,9 @@ mod tests {
         assert_ne!(random(3, 5), random(4, 5));
     }
 
-    /// In how many rows of so many the first text is a formula, and the others are one byte from it.
+    /// In how many parts of so many the first text is a formula, and the others are one byte from it.
     #[test]
-    fn a_row_is_one_formula_and_its_edits() {
+    fn a_part_is_one_formula_and_its_edits() {
         let mut formulas = 0;
         for row in 0..40 {
             let text = |place| match random(1, row * ROW + place) {
@@ -74,7 +86,7 @@ mod tests {
             let Some(formula) = text(0) else { continue };
             formulas += 1;
             assert_ne!(oracle::read_rule(&formula, &mut [0; 519]).outcome.number, 64);
-            for place in 1..ROW - 1 {
+            for place in 1..PART - 1 {
                 let edited = text(place).expect("a text");
                 let (longer, shorter) =
                     if edited.len() > formula.len() { (&edited, &formula) } else { (&formula, &edited) };

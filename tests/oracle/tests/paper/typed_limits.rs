@@ -47,7 +47,7 @@ fn above_4_096_bytes() {
     assert_eq!(read(vec![0xFF; 100_000]), Err((65, 0)));
 }
 
-/// "any text of the grammar of 533 to 4,096 bytes is 65".
+/// any text of the grammar of 533 to 4,096 bytes is 65.
 #[test]
 fn long_texts_of_the_grammar() {
     for length in [533, 534, 1_000, 4_095, 4_096] {

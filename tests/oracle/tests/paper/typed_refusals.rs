@@ -115,7 +115,7 @@ fn stops_early() {
     taken("L12");
 }
 
-/// "Any byte may occur": 80 to FF are bytes that no formula goes on from.
+/// Any byte may occur: 80 to FF are bytes that no formula goes on from.
 #[test]
 fn bytes_that_are_not_ascii() {
     for byte in 0x80..=0xFF {

@@ -1,7 +1,7 @@
 -- The first test holds, and the second decides; or it does not.
 use borrow.Author.Tests.{le-leb, lt-leb}
-use Rattle.arguments.proofs.is_digit.Statement.{statement}
-use Rattle.arguments.proofs.is_digit.Tie as tie
+use Rattle.decimal.proofs.is_digit.Statement.{statement}
+use Rattle.decimal.proofs.is_digit.Tie as tie
 
 returns : tie.Need-returns
 returns c = rw (le-leb 48 _ (c .if1 .taken))

@@ -1,8 +1,8 @@
 -- The buffers have just the room that is asked for, and the counts lie in them.
 use borrow.Author.Needs.{needs}
 use Rattle.append.proofs.Append.{at-front-counts}
-use Rattle.text_call.proofs.print_text.Statement.{statement}
-use Rattle.text_call.proofs.print_text.Tie as tie
+use Rattle.text_call.proofs.run.Statement.{statement}
+use Rattle.text_call.proofs.run.Tie as tie
 
 -- where the line was written
 abbrev reported : tie.After-line3 → tie.After-report-text
@@ -14,9 +14,9 @@ array-share-prefix-line c = at-front-counts (c .before .report-text .ensures) .0
 slice-aggregate-write-all : tie.Need-slice-aggregate-write-all
 slice-aggregate-write-all c = at-front-counts (reported c .report-text .ensures) .1
 
-pub print-text-spec : {M : Type 1} → statement M
-print-text-spec =
+pub run-spec : {M : Type 1} → statement M
+run-spec =
     tie.close
-    (tie.spec (λ c. search needs) (λ c. search needs) (λ c κs. search needs) (λ c. search needs) (λ c. search needs)
-    (λ c. search needs) (λ c κs. search needs) array-share-prefix-line slice-aggregate-write-all
-    (λ c κs. search needs) (λ c. search needs))
+    (tie.spec (λ c κs. search needs) (λ c κs. search needs) (λ c. search needs) (λ c. search needs) (λ c. search needs)
+    (λ c κs. search needs) (λ c. search needs) (λ c. search needs) (λ c. search needs) (λ c κs. search needs)
+    array-share-prefix-line slice-aggregate-write-all (λ c κs. search needs) (λ c. search needs))

@@ -10,10 +10,10 @@ use lib.Seq.{sets-eq}
 use Rattle.append.specs.Piece.{Room, Appended, AtFront}
 use Rattle.append.proofs.Append.{appended-both, room-second, room-parts, at-front}
 use Rattle.listing.specs.Text.{newline, refusedLine}
-use Rattle.typed_call.specs.Refused.{shownText, caretLine, refusedText}
-use Rattle.typed_call.proofs.Sizes.{refusal-room}
-use Rattle.typed_call.proofs.put_refusal.Statement.{statement}
-use Rattle.typed_call.proofs.put_refusal.Tie as tie
+use Rattle.typed_listing.specs.Refused.{shownText, caretLine, refusedText}
+use Rattle.typed_listing.proofs.Sizes.{refusal-room}
+use Rattle.typed_listing.proofs.refuse_text.Statement.{statement}
+use Rattle.typed_listing.proofs.refuse_text.Tie as tie
 
 -- the stops, each from the one after it: the start, and where each part was written
 abbrev start : tie.After-refuse-arg → tie.Start
@@ -92,7 +92,7 @@ returns c =
     let done = appended-both (appended-front (rooms s .0) (one .refuse .ensures)) (two .put-shown .ensures) in
     at-front (room s) (appended-both (appended-both done (three .put .ensures)) (marked c .put-caret .ensures))
 
-pub put-refusal-spec : {M : Type 1} → statement M
-put-refusal-spec =
+pub refuse-text-spec : {M : Type 1} → statement M
+refuse-text-spec =
     tie.close
     (tie.spec (λ c κs. search needs) put-shown-requires put-requires put-caret-requires (λ c. search needs) returns)

@@ -5,9 +5,9 @@ use native.Mathlib.Omega.{arith}
 use Rattle.append.specs.Piece.{Appended}
 use Rattle.append.proofs.Append.{appended-size, appended-text}
 use Rattle.listing.proofs.Joined.{joined-none, joined-more, joined-room}
-use Rattle.typed_call.specs.Refused.{spaces}
-use Rattle.typed_call.proofs.put_spaces.Statement.{statement}
-use Rattle.typed_call.proofs.put_spaces.Tie as tie
+use Rattle.typed_listing.specs.Refused.{spaces}
+use Rattle.typed_listing.proofs.put_spaces.Statement.{statement}
+use Rattle.typed_listing.proofs.put_spaces.Tie as tie
 
 abbrev Inv-loop : tie.InvT-loop
 Inv-loop count at out₀ end₀ i₀ out end i = (i ≤ count) × Appended at (spaces i) end out₀ out

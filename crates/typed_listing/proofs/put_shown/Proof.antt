@@ -10,9 +10,9 @@ use Rattle.append.specs.Piece.{Appended}
 use Rattle.append.proofs.Append.{appended-size, appended-text}
 use Rattle.listing.specs.Text.{joined}
 use Rattle.listing.proofs.Joined.{joined-none, joined-more, joined-room}
-use Rattle.typed_call.specs.Refused.{shownAt, shownText}
-use Rattle.typed_call.proofs.put_shown.Statement.{statement}
-use Rattle.typed_call.proofs.put_shown.Tie as tie
+use Rattle.typed_listing.specs.Refused.{shownAt, shownText}
+use Rattle.typed_listing.proofs.put_shown.Statement.{statement}
+use Rattle.typed_listing.proofs.put_shown.Tie as tie
 
 abbrev Inv-loop : tie.InvT-loop
 Inv-loop text at out₀ end₀ i₀ out end i = (i ≤ length text) × Appended at (joined i (shownAt text)) end out₀ out

@@ -1,6 +1,5 @@
--- Reading and writing back, of the definitions: a text that is read and written back is the same text; a rule that is
--- written back and read again has the same formula, though its nodes may stand in another order.
-use mathlib.Core.Path.{_≡_, refl, ap, _∙_}
+-- The formula of an accepted rule is in range: labels by check 14, bounds since they have two bytes.
+use mathlib.Core.Path.{_≡_}
 use mathlib.Core.List.{List}
 use Prim.Native.Nat.{ℕ, zero, suc, _+_, _*_, _-_, _≤_, _<_}
 use native.Mathlib.Omega.{arith}
@@ -8,23 +7,12 @@ use lib.ListN.{getD}
 use lib.Dec.{eqb}
 use borrow.Author.Tests.{eqb-true, eqb-false}
 use Rattle.base.proofs.Truth.{cond-elim}
-use Rattle.tctl.specs.Formula.{Formula, atMost, atLeast}
-use Rattle.rule_grammar.specs.Text.{text}
-use Rattle.rule_grammar.specs.Grammar.{InRange, BoundInRange, TextOf}
-use Rattle.rule_grammar.specs.Machine.{judge}
-use Rattle.rule_grammar.specs.Grammar.{formula}
-use Rattle.rule_grammar.proofs.Judged.{text-judged}
+use Rattle.tctl.specs.Formula.{atMost, atLeast}
+use Rattle.rule_grammar.specs.Grammar.{InRange, BoundInRange}
 use Rattle.rule.specs.Bytes.{nodeCount, nodeWords}
 use Rattle.rule.specs.Formula.{boundOf, operation, formulaBy, formulaOf}
 use Rattle.rule.specs.Refusals.{ruleRefusal}
 use Rattle.rule.proofs.Accepted.{AcceptedRule, accepted, label-low, lower-a, lower-b}
-use Rattle.rule_bytes.specs.RuleBytes.{ruleBytes}
-use Rattle.rule_bytes.proofs.Tree.{formula-written}
-
-pub read-then-written : {t : List ℕ} {f : Formula} → TextOf t f → text (formulaOf (ruleBytes f)) ≡ t
-read-then-written {f = f} h = ap text (formula-written f) ∙ h .same
-
--- ── the formula of an accepted rule is in range ──
 
 bound-range : (kind c : ℕ) → c ≤ 65535 → BoundInRange (boundOf kind c)
 bound-range kind c h = cond-elim BoundInRange (eqb kind 1) {x = atMost c} {y = atLeast c} (λ _. h) (λ _. h)
@@ -61,8 +49,3 @@ pub accepted-range :
 accepted-range s e bytes =
     let acc = accepted s e in
     node-range acc bytes (suc (nodeCount s - 1)) (nodeCount s - 1) (omega (arith, acc .shape .some-nodes))
-
-pub written-then-read :
-    (s : List ℕ) → ruleRefusal s .number ≡ 0 → ((i : ℕ) → getD s i 0 < 256) →
-    judge (text (formulaOf s)) ≡ formula (formulaOf s)
-written-then-read s e bytes = text-judged (record { range = accepted-range s e bytes; same = refl })

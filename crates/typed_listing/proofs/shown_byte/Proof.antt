@@ -2,8 +2,8 @@
 use mathlib.Core.Logic.{⊎-elim}
 use native.Mathlib.Omega.{arith}
 use borrow.Author.Tests.{lt-ltb, le-ltb}
-use Rattle.typed_call.proofs.shown_byte.Statement.{statement}
-use Rattle.typed_call.proofs.shown_byte.Tie as tie
+use Rattle.typed_listing.proofs.shown_byte.Statement.{statement}
+use Rattle.typed_listing.proofs.shown_byte.Tie as tie
 
 returns : tie.Need-returns
 returns c =

@@ -1,9 +1,9 @@
 -- The spaces, then the caret and the end of its line.
 use borrow.Author.Needs.{needs}
 use Rattle.append.proofs.Append.{appended-both, room-first, room-second}
-use Rattle.typed_call.specs.Refused.{caretLine}
-use Rattle.typed_call.proofs.put_caret.Statement.{statement}
-use Rattle.typed_call.proofs.put_caret.Tie as tie
+use Rattle.typed_listing.specs.Refused.{caretLine}
+use Rattle.typed_listing.proofs.put_caret.Statement.{statement}
+use Rattle.typed_listing.proofs.put_caret.Tie as tie
 
 -- the start, and where the spaces and the caret were written
 abbrev start : tie.After-put-spaces-arg → tie.Start

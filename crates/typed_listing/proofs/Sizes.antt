@@ -7,7 +7,7 @@ use Rattle.append.specs.Piece.{Room}
 use Rattle.listing.specs.Text.{newline, space, refusedLine}
 use Rattle.listing.proofs.Joined.{joined-size}
 use Rattle.listing.proofs.Sizes.{refused-room}
-use Rattle.typed_call.specs.Refused.{shownAt, shownText, spaces, caretLine, refusedText}
+use Rattle.typed_listing.specs.Refused.{shownAt, shownText, spaces, caretLine, refusedText}
 
 line-size : (number place : ℕ) → number < 2 ^ 32 → place < 2 ^ 32 → length (refusedLine number place) ≤ 33
 line-size number place h i = omega (arith, refused-room number place (replicate 33 0) h i (omega arith) .fits)
