@@ -55,6 +55,7 @@ read-cases {t} {output} {r} {new} h z = turn (h .verdict) (h .judged) (decLt 409
   where
     told : ReadTold t output r new
     told = read-told h
+
     turn : (v : Verdict) → Judged t v → Dec (4096 < length t) → Read t output r new
     turn v j (yes l) = absurd (not-0 (told .long l) refl (omega arith) z)
     turn (fault p) (faulty x) (no l) = absurd (not-0 (told .fault (omega arith) p x) refl (omega arith) z)
@@ -86,6 +87,7 @@ wrote-cases {rule} {output} {r} {new} h z =
   where
     told : WroteTold rule output r new
     told = wrote-told h
+
     turn :
         Dec (ruleRefusal rule .number ≡ 0) → Dec (length output < length (text (formulaOf rule))) →
         Wrote-it rule output r new
@@ -116,8 +118,7 @@ round-trips =
       accepted =
           λ t output r new h z.
           let it = read-cases h z in
-          let f = it .tree in
-          (
+          let f = it .tree in (
             ap ruleRefusal (it .gives) ∙ written-accepted f (it .few) (it .textOf .range),
             subst (TextOf t) (sym (ap formulaOf (it .gives) ∙ formula-written f)) (it .textOf),
             subst LeftFirst (sym (it .gives)) (left-first-written f),

@@ -5,7 +5,58 @@ use Rattle.claim_texts.specs.SmallTexts.{AllJudged, smallTexts}
 
 pub small-texts : AllJudged smallTexts
 unfolding judge step done reading
-small-texts =
-    (judged _, (judged _, (judged _, (judged _, (judged _, (judged _, (judged _, (judged _, (judged _,
-    (judged _, (judged _, (judged _, (judged _, (judged _, (judged _, (judged _, (judged _, (judged _,
-    (judged _, tt)))))))))))))))))))
+small-texts = (
+  judged _,
+  (
+    judged _,
+    (
+      judged _,
+      (
+        judged _,
+        (
+          judged _,
+          (
+            judged _,
+            (
+              judged _,
+              (
+                judged _,
+                (
+                  judged _,
+                  (
+                    judged _,
+                    (
+                      judged _,
+                      (
+                        judged _,
+                        (
+                          judged _,
+                          (
+                            judged _,
+                            (
+                              judged _,
+                              (
+                                judged _,
+                                (
+                                  judged _,
+                                  (
+                                    judged _,
+                                    (judged _, tt),
+                                  ),
+                                ),
+                              ),
+                            ),
+                          ),
+                        ),
+                      ),
+                    ),
+                  ),
+                ),
+              ),
+            ),
+          ),
+        ),
+      ),
+    ),
+  ),
+)

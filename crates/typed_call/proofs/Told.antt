@@ -10,7 +10,7 @@ use Rattle.outcome.specs.declared.Written.{Written}
 use Rattle.rule_grammar.specs.Grammar.{Verdict, Judged}
 use Rattle.call_read_rule.specs.Read.{writtenRule, ReadAs}
 use Rattle.typed_listing.specs.Refused.{refusedText}
-use Rattle.typed_call.specs.Answer.{ruleRoom, typed, outcomeOf, printedOf, Answers}
+use Rattle.typed_call.specs.Answer.{ruleRoom, typed, outcomeOf, printedOf, Typing}
 use Rattle.typed_call.proofs.Enough.{answer-near}
 
 -- the text of the input was read, and there was room for any rule
@@ -32,7 +32,7 @@ module _
 
     answers :
         {printed : ℕ} {out newOut : List ℕ} → AtFront (printedOf (typed input) (r .outcome)) printed out newOut →
-        Answers input rule out (record { written = r .written; printed = printed }) newRule newOut
+        Typing input rule out (record { written = r .written; printed = printed }) newRule newOut
     answers {printed} {out} {newOut} p =
         record {
           verdict = v;
@@ -43,11 +43,11 @@ module _
 
     pub accepted :
         {out : List ℕ} → r .outcome .number ≡ 0 →
-        Answers input rule out (record { written = r .written; printed = 0 }) newRule out
+        Typing input rule out (record { written = r .written; printed = 0 }) newRule out
     accepted z = answers (rw (eq-eqb (r .outcome .number) 0 z) at-front-none)
 
     pub refused :
         {printed : ℕ} {out newOut : List ℕ} → ¬ (r .outcome .number ≡ 0) →
         AtFront (refusedText (r .outcome .number) (r .outcome .place) t) printed out newOut →
-        Answers input rule out (record { written = r .written; printed = printed }) newRule newOut
+        Typing input rule out (record { written = r .written; printed = printed }) newRule newOut
     refused h p = answers (rw (ne-eqb (r .outcome .number) 0 h, ← e) p)

@@ -34,7 +34,7 @@ abbrev pub printedOf : List ℕ → Outcome → List ℕ
 printedOf t o = cond (eqb (o .number) 0) [] (refusedText (o .number) (o .place) t)
 
 -- the rule that is written, and the text that is printed
-pub record Answers (input rule out : List ℕ) (r : Typed) (newRule newOut : List ℕ) : Type 0 where
+pub record Typing (input rule out : List ℕ) (r : Typed) (newRule newOut : List ℕ) : Type 0 where
   pub verdict : Verdict
   pub judged : Judged (typed input) verdict
   pub rule-front : AtFront (writtenRule verdict (outcomeOf (typed input) verdict .number)) (r .written) rule newRule

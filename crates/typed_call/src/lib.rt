@@ -3,7 +3,7 @@ ghost use mathlib.Core.Path.{_≡_};
 ghost use Prim.Native.Nat.{_+_, _≤_};
 ghost use lib.ListN.{length};
 ghost use Rattle.io.specs.Counts.{Counts};
-ghost use Rattle.typed_call.specs.Answer.{inputRead, ruleRoom, typed, Answers};
+ghost use Rattle.typed_call.specs.Answer.{inputRead, ruleRoom, typed, Typing};
 
 // How many bytes of standard input are read: one more than the longest text and its newline have.
 const INPUT: usize = 4098;
@@ -37,7 +37,7 @@ fn trimmed(input: &[u8]) -> &[u8]
 // The rule of an input, or the text that is printed of its refusal.
 fn answer(input: &[u8], rule: &mut [u8], out: &mut [u8]) -> Typed
     requires { ⌜ (length (now rule) ≡ ruleRoom) × (33 + length (now input) + 1 + 4096 + 2 ≤ length (now out)) ⌝ }
-    ensures { λ r. ⌜ Answers (now (input .entry)) (now (rule .entry)) (now (out .entry)) r
+    ensures { λ r. ⌜ Typing (now (input .entry)) (now (rule .entry)) (now (out .entry)) r
         (now (rule .exit)) (now (out .exit)) ⌝ }
 {
     let text = trimmed(input);

@@ -16,16 +16,14 @@ no-less c = c .before
 
 less-requires : tie.Need-equal-from-requires
 less-requires c κs =
-    let of = start (c .before) .pre .2 in
-    (
+    let of = start (c .before) .pre .2 in (
       omega (arith, c .before .stands .ensures .1 (c .if1 .taken)),
       record { runs = of .runs; sign = less; same = ap (λ (x : ℕ). 8 * x + 1) (of .same) },
     )
 
 more-requires : tie.Need-equal-from-requires-2
 more-requires c κs =
-    let of = start (no-less (c .before) .before) .pre .2 in
-    (
+    let of = start (no-less (c .before) .before) .pre .2 in (
       omega (arith, c .before .stands2 .ensures .1 (c .if2 .taken)),
       record { runs = of .runs; sign = more; same = ap (λ (x : ℕ). 8 * x + 2) (of .same) },
     )

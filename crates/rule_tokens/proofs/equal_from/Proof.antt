@@ -48,8 +48,7 @@ space-requires c κs =
     let n = number c in
     let l = found (n .before) .stands .ensures .1 (n .before .if1 .taken) in
     let of = start (found (n .before)) .pre .1 in
-    let v = n .number-from .result .value in
-    (
+    let v = n .number-from .result .value in (
       rw (n .number-from .ensures) (number-ends 65535 _ _ (omega (arith, l))),
       record {
         join = until (of .runs) (of .sign) v;

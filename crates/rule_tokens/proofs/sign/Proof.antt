@@ -55,8 +55,7 @@ returns c (timed allRuns) e = absurd (let z : ⊥ = omega (arith, e, c .before .
 
 bound-requires : tie.Need-bound-from-requires
 bound-requires c κs =
-    let here = start (spaced (timed-at (c .before)) .before) in
-    (
+    let here = start (spaced (timed-at (c .before)) .before) in (
       omega (arith, c .before .stands2 .ensures .1 (c .if3 .taken)),
       here .pre .1,
       of-runs _ (timed-at (c .before) .if2 .left) (here .pre .2),
