@@ -94,5 +94,10 @@ pub rule-fits :
 rule-fits k all output l size h =
     record {
       fits =
-          omega (arith, h, length-append (headBytes k) (take (8 * k) all), length-take-le (8 * k) all (omega (arith, l, size)));
+          omega (
+            arith,
+            h,
+            length-append (headBytes k) (take (8 * k) all),
+            length-take-le (8 * k) all (omega (arith, l, size)),
+          );
     }

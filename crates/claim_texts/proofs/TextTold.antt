@@ -85,6 +85,7 @@ module _ {rule output : List ℕ} {r : Written} {new : List ℕ} (h : Wrote rule
       record {
         refused = λ n. h .outcome ∙ sym (part-refuses (ruleTable rule) _ refl n);
         short = λ z l. sym (last-row z) ∙ rw (lt-ltb (length output) size l);
-        taken = λ z l. given-front (text (formulaOf rule)) (sym (last-row z) ∙ rw (le-ltb (length output) size l)) (h .front);
+        taken =
+            λ z l. given-front (text (formulaOf rule)) (sym (last-row z) ∙ rw (le-ltb (length output) size l)) (h .front);
         kept = λ n. kept-front (text (formulaOf rule)) n (h .front);
       }

@@ -1,5 +1,5 @@
--- What the calls that read a rule from text and write it back answer and leave, whatever they were handed. The quoted words are
--- of 02, paper 5.
+-- What the calls that read a rule from text and write it back answer and leave, whatever they were handed. The quoted
+-- words are of 02, paper 5, or of 01.
 use mathlib.Core.Path.{_≡_}
 use mathlib.Core.List.{List, _++_}
 use Prim.Native.Nat.{ℕ, _+_, _*_, _≤_, _<_}

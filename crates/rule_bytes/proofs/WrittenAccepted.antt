@@ -185,7 +185,10 @@ module _ (s : List ℕ) (n f v : ℕ) (one : 1 ≤ f) (p : Once s n f v) where
       uses s (n + (f + 1)) v ≡ uses s (n + f) v + one-if a v → Once s n (f + 1) v
   not-once k =
       record {
-        before = λ l. let x = p .before l in let y = unnamed {a = a} {v = v} (λ z. let u : ⊥ = omega arith in u) in omega arith;
+        before =
+            λ l.
+            let x = p .before l in
+            let y = unnamed {a = a} {v = v} (λ z. let u : ⊥ = omega arith in u) in omega arith;
         inside = λ l m. turn l m (ℕ-discrete a v);
         beyond =
             λ l.
@@ -258,8 +261,8 @@ module _ (s : List ℕ) (n f g v : ℕ) (one : 1 ≤ f) (two : 1 ≤ g) (p : Onc
 abbrev AllOnce : Formula → Type 0
 AllOnce f = (s : List ℕ) (n v : ℕ) → Sits s n (nodesFrom n f) → Once s n (nodes f) v
 
--- by induction: below the formula's nodes and from its last one on it names none; between them the operands name all but their
--- last ones, and the last node names these
+-- by induction: below the formula's nodes and from its last one on it names none; between them the operands name all but
+-- their last ones, and the last node names these
 all-once : (f : Formula) → AllOnce f
 unfolding nodesFrom usesIn formOf
 all-once =

@@ -10,7 +10,8 @@ use lib.ListN.{length, take}
 use lib.Seq.{take-length}
 use Rattle.tctl.specs.Formula.{Formula}
 use Rattle.rule_grammar.specs.Text.{text}
-use Rattle.rule_grammar.specs.Grammar.{InRange, TextOf, OfGrammar, Begins, Place, Fault, Verdict, fault, formula, Judged, faulty, whole}
+use Rattle.rule_grammar.specs.Grammar.{InRange, TextOf, OfGrammar, Begins, Place, Fault}
+use Rattle.rule_grammar.specs.Grammar.{Verdict, fault, formula, Judged, faulty, whole}
 use Rattle.rule_grammar.specs.Machine.{State, step, done, Reading, stuck, ran, stepped, reading, initial}
 use Rattle.rule_grammar.specs.Machine.{ending, verdict, judge}
 use Rattle.rule_grammar.proofs.Sound.{seen-begins, done-text, reading-reached}

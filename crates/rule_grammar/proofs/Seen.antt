@@ -181,7 +181,10 @@ after-each f (opened o ∷ K) b h l =
     on-each b 32 (record { live = (h, l .1); adds = simp append-assoc }) nothing
 after-each f (joined j g ∷ K) b h l =
     on-each b 41
-    (record { live = (join-live j g f (l .0 .0) (l .0 .1) h, l .1); adds = rw (join-text j g f) (simp append-assoc) }) nothing
+    (record {
+      live = (join-live j g f (l .0 .0) (l .0 .1) h, l .1);
+      adds = rw (join-text j g f) (simp append-assoc);
+    }) nothing
 
 further-each :
     (j : Join) (f : Formula) (K : List Context) (b : ℕ) → InRange f → StackLive K →

@@ -6,7 +6,8 @@ use native.Mathlib.Omega.{arith}
 use lib.ListN.{length, getD}
 use Rattle.tctl.specs.Kind.{someRun, allRuns}
 use Rattle.tctl.specs.Formula.{Formula}
-use Rattle.rule_grammar.specs.Machine.{less, more, Join, conj, disj, until, Opening, pair, timed, Context, negated, opened, joined, ended, at}
+use Rattle.rule_grammar.specs.Machine.{less, more, Join, conj, disj, until, Opening}
+use Rattle.rule_grammar.specs.Machine.{pair, timed, Context, negated, opened, joined, ended, at}
 use Rattle.rule_bytes.specs.RuleBytes.{nodes, nodesFrom}
 use Rattle.rule_bytes.proofs.Tree.{some-nodes}
 use Rattle.rule_tokens.specs.Tags.{openTag, joinTag}
@@ -68,7 +69,8 @@ module _ (t : List ℕ) (s : Spot) (stack all : List ℕ) where
     pub open-ones : Opened (joined sign first ∷ around) (s .depth) stack
     pub count : s .count ≡ held around + nodes first + nodes operand
     pub noded :
-        Noded (s .count) (written around ++ nodesFrom (held around) first ++ nodesFrom (held around + nodes first) operand) all
+        Noded (s .count)
+        (written around ++ nodesFrom (held around) first ++ nodesFrom (held around + nodes first) operand) all
     pub reaches : Reaches t s (at (ended operand) (joined sign first ∷ around))
 
   -- the tag is the last byte of what is kept

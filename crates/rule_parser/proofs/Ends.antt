@@ -49,7 +49,10 @@ read-whole {t} {all = all} {s} h e =
     subst (λ (v : Verdict). Reads t v (record { place = s .end; count = s .count }) all) (sym (f .verdict))
     (subst (λ (p : ℕ). Reads t (formula (f .whole)) (record { place = p; count = s .count }) all) (sym (f .end))
     (subst (λ (n : ℕ). Reads t (formula (f .whole)) (record { place = length t; count = n }) all) (sym (f .count))
-    (whole (λ l. subst (λ (n : ℕ). take (8 * n) all ≡ nodesFrom 0 (f .whole)) (f .count) (f .noded .nodes (omega (arith, f .count, l)))))))
+    (whole
+    (λ l.
+    subst (λ (n : ℕ). take (8 * n) all ≡ nodesFrom 0 (f .whole)) (f .count)
+    (f .noded .nodes (omega (arith, f .count, l)))))))
 
 -- or has its fault where reading stopped
 pub read-fault :

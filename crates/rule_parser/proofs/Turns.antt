@@ -21,7 +21,8 @@ use Rattle.rule_numbers.specs.Byte.{byteIs}
 use Rattle.rule_numbers.proofs.Byte.{Span, byte-step, byte-not, inside-at}
 use Rattle.rule_parser.specs.declared.Spot.{Spot}
 use Rattle.rule_stack.specs.Open.{held, written, entry, coded, put, oneNode, joinedNode}
-use Rattle.rule_parser.specs.Standing.{spot, Opened, Noded, Within, Reaches, Starting, Behind, Finished, Standing, Turned}
+use Rattle.rule_parser.specs.Standing.{spot, Opened, Noded, Within, Reaches}
+use Rattle.rule_parser.specs.Standing.{Starting, Behind, Finished, Standing, Turned}
 use Rattle.rule_parser.proofs.Stack.{opened-size, opened-byte, opened-around, opened-more}
 use Rattle.rule_parser.proofs.Nodes.{noded-more}
 
@@ -206,7 +207,8 @@ module _ (t : List ℕ) (s : Spot) (stack all : List ℕ) (w : Within t s stack)
               opened =
                   subst (λ (l : List ℕ). Opened (joined j f ∷ K) (s .depth + 3) (sets stack (s .depth - 1) l)) kept
                   (subst
-                  (λ (d : ℕ). Opened (joined j f ∷ K) d (sets stack (s .depth - 1) (entry (held K) (joined j f)))) deep more);
+                  (λ (d : ℕ). Opened (joined j f ∷ K) d (sets stack (s .depth - 1) (entry (held K) (joined j f))))
+                  deep more);
               count = c;
               noded = n;
               reaches = r ∙ reach;
@@ -288,7 +290,14 @@ module _ (t : List ℕ) (s : Spot) (stack all : List ℕ) (w : Within t s stack)
   finish-turn f c n r e =
       record {
         standing =
-            finishes (record { whole = f; end = e; count = c; noded = n; verdict = r ∙ from-end t (s .end) (at (ended f) []) e });
+            finishes
+            (record {
+              whole = f;
+              end = e;
+              count = c;
+              noded = n;
+              verdict = r ∙ from-end t (s .end) (at (ended f) []) e;
+            });
         within = record { read = w .read; short = w .short; room = w .room; few = omega (arith, w .few) };
         onward = λ z. absurd (let y : ⊥ = omega (arith, z) in y);
       }

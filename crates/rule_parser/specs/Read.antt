@@ -8,8 +8,8 @@ use Rattle.rule_grammar.specs.Grammar.{Verdict, fault, formula}
 use Rattle.rule_bytes.specs.RuleBytes.{nodes, nodesFrom}
 use Rattle.rule_parser.specs.declared.Read.{Read}
 
--- a fault has its place and no nodes; a formula takes the whole text, and has so many nodes, written as far as there is room for
--- 64
+-- a fault has its place and no nodes; a formula takes the whole text, and has so many nodes, written as far as there is
+-- room for 64
 pub data Reads (t : List ℕ) : Verdict → Read → List ℕ → Type 0 where
   faulty : {p : ℕ} {s : List ℕ} → Reads t (fault p) (record { place = p; count = 0 }) s
   whole :

@@ -12,7 +12,8 @@ use Rattle.base.proofs.Truth.{and-iff, cond-elim}
 use Rattle.tctl.specs.Kind.{Runs}
 use Rattle.tctl.specs.Formula.{Formula}
 use Rattle.rule_grammar.specs.Grammar.{fault}
-use Rattle.rule_grammar.specs.Machine.{Sign, less, more, Join, conj, disj, until, Opening, pair, timed, Context, opened, joined}
+use Rattle.rule_grammar.specs.Machine.{Sign, less, more, Join, conj, disj}
+use Rattle.rule_grammar.specs.Machine.{until, Opening, pair, timed, Context, opened, joined}
 use Rattle.rule_grammar.specs.Machine.{start, ended, spaced, awaited, compared, equalled, linked, State, at, step, done}
 use Rattle.rule_grammar.specs.Machine.{after, further as further-step, from, mostOf}
 use Rattle.decimal.specs.Value.{isDigit as digit}
@@ -22,7 +23,8 @@ use Rattle.rule_grammar.proofs.From.{from-step, from-halt}
 use Rattle.rule_bytes.specs.JoinNode.{numberOf}
 use Rattle.rule_numbers.specs.Byte.{byteIs}
 use Rattle.rule_numbers.specs.Number.{digitAt, further, numberFrom}
-use Rattle.rule_tokens.specs.Sign.{Signed, joins, unsigned, spaceFrom, limitFrom, equalFrom, boundFrom, signFrom, signOf}
+use Rattle.rule_tokens.specs.Sign.{Signed, joins, unsigned, spaceFrom}
+use Rattle.rule_tokens.specs.Sign.{limitFrom, equalFrom, boundFrom, signFrom, signOf}
 use Rattle.rule_numbers.proofs.Byte.{Span, inside-at, byte-not, byte-step, digit-not}
 use Rattle.rule_numbers.proofs.NumberLaw.{further-grown}
 
@@ -42,7 +44,8 @@ module _ (s : List ℕ) (K : List Context) (f : Formula) (o : Opening) where
   -- what the machine, behind the first operand, makes of the text from place i on
   pub data Joins (i : ℕ) : Signed → Type 0 where
     joined-next :
-        {j : Join} {e : ℕ} → Span s i 3 e → numberOf j < 65536 → from s i operand ≡ from s e (at start (joined j f ∷ K)) → Joins i (joins j e)
+        {j : Join} {e : ℕ} → Span s i 3 e → numberOf j < 65536 →
+        from s i operand ≡ from s e (at start (joined j f ∷ K)) → Joins i (joins j e)
     joined-none : {e : ℕ} → e ≤ length s → from s i operand ≡ fault e → Joins i (unsigned e)
 
   module _ (i : ℕ) where
@@ -53,7 +56,8 @@ module _ (s : List ℕ) (K : List Context) (f : Formula) (o : Opening) where
 
     -- the space behind the sign: nothing else goes on from there
     space-law :
-        (j : Join) (k : ℕ) → numberOf j < 65536 → i + 2 ≤ k → k ≤ length s → from s i operand ≡ from s k (at (linked j f) K) →
+        (j : Join) (k : ℕ) → numberOf j < 65536 → i + 2 ≤ k → k ≤ length s →
+        from s i operand ≡ from s k (at (linked j f) K) →
         (k < length s → further-step j f K (getD s k 0) ≡ none) → Joins i (spaceFrom j s k)
     unfolding step done
     space-law j k small p l e n =
@@ -82,7 +86,8 @@ module _ (s : List ℕ) (K : List Context) (f : Formula) (o : Opening) where
             (λ m b z. rw (digit-no-space m b (mostOf g) z, z)) n (k + 1) (omega (arith, h)) few in
             let r = further (mostOf g) n (drop (k + 1) s) (k + 1) in
             rw (d, ne-eqb (r .end) k (λ z. let y : ⊥ = omega (arith, w .after, z) in y))
-            (space-law (until q g (r .value)) (r .end) (most-small g (r .value) (w .few)) (omega (arith, p, w .after)) (w .inside)
+            (space-law (until q g (r .value)) (r .end) (most-small g (r .value) (w .few)) (omega (arith, p, w .after))
+            (w .inside)
             (e ∙ from-step s k (at (equalled q g f) K) h (rw one) ∙ w .same)
             (λ m. rw (w .stops m)))
         turn false d =

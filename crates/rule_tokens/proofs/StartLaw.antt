@@ -12,14 +12,16 @@ use Rattle.base.proofs.Truth.{and-iff, cond-elim}
 use Rattle.tctl.specs.Kind.{Runs, someRun, allRuns}
 use Rattle.tctl.specs.Formula.{always, label}
 use Rattle.rule_grammar.specs.Grammar.{fault}
-use Rattle.rule_grammar.specs.Machine.{Opening, pair, timed, Context, negated, opened, start, t as t₁, tr, tru, letter, labelled}
+use Rattle.rule_grammar.specs.Machine.{Opening, pair, timed, Context, negated, opened}
+use Rattle.rule_grammar.specs.Machine.{start, t as t₁, tr, tru, letter, labelled}
 use Rattle.rule_grammar.specs.Machine.{quantified, ended, State, at, step, done, from}
 use Rattle.decimal.specs.Value.{isDigit as digit}
 use Rattle.decimal.proofs.DigitRange.{digit-true}
 use Rattle.rule_grammar.proofs.From.{from-step, from-halt, from-same}
 use Rattle.rule_numbers.specs.Byte.{byteIs}
 use Rattle.rule_numbers.specs.Number.{digitAt, further, numberFrom}
-use Rattle.rule_tokens.specs.Start.{Start, truth, labels, negates, opens, nowhere, trueFrom, labelFrom, bracketFrom, startOf}
+use Rattle.rule_tokens.specs.Start.{Start, truth, labels, negates, opens}
+use Rattle.rule_tokens.specs.Start.{nowhere, trueFrom, labelFrom, bracketFrom, startOf}
 use Rattle.rule_numbers.proofs.Byte.{Span, inside-at, byte-not, byte-step, digit-not}
 use Rattle.rule_numbers.proofs.NumberLaw.{further-grown}
 
@@ -31,7 +33,8 @@ module _ (s : List ℕ) (K : List Context) where
         {n e : ℕ} → Span s i 2 e → n ≤ 15 → from s i (at start K) ≡ from s e (at (ended (label n)) K) → Begun i (labels n e)
     not-begun : {e : ℕ} → Span s i 1 e → from s i (at start K) ≡ from s e (at start (negated ∷ K)) → Begun i (negates e)
     open-begun :
-        {o : Opening} {e : ℕ} → Span s i 1 e → from s i (at start K) ≡ from s e (at start (opened o ∷ K)) → Begun i (opens o e)
+        {o : Opening} {e : ℕ} → Span s i 1 e → from s i (at start K) ≡ from s e (at start (opened o ∷ K)) →
+        Begun i (opens o e)
     none-begun : {e : ℕ} → e ≤ length s → from s i (at start K) ≡ fault e → Begun i (nowhere e)
 
   module _ (i j : ℕ) (p : i + 1 ≤ j) (l : j ≤ length s) where
@@ -81,7 +84,8 @@ module _ (s : List ℕ) (K : List Context) where
             (omega (arith, low .low, low .high)) in
             let r = further 15 n (drop (j + 1) s) (j + 1) in
             rw (d, ne-eqb (r .end) j (λ z. let y : ⊥ = omega (arith, g .after, z) in y))
-            (label-begun {n = r .value} {e = r .end} (record { long = omega (arith, p, g .after); inside = g .inside }) (g .few)
+            (label-begun {n = r .value} {e = r .end} (record { long = omega (arith, p, g .after); inside = g .inside })
+            (g .few)
             (e ∙ from-step s j (at letter K) k (rw one) ∙ g .same ∙
             from-same s (r .end) (at (labelled (r .value)) K) (at (ended (label (r .value))) K) (g .inside)
             (λ m. rw (g .stops m)) refl))
@@ -117,11 +121,13 @@ module _ (s : List ℕ) (K : List Context) where
       (byte-step s i 40 (at start K) (at start (opened pair ∷ K)) b refl)) λ b₄.
       cond-elim (Begun i) (byteIs s i 69)
       (λ b.
-      bracket-law i (i + 1) (omega arith) (inside 69 b) someRun (byte-step s i 69 (at start K) (at (quantified someRun) K) b refl))
+      bracket-law i (i + 1) (omega arith) (inside 69 b) someRun
+      (byte-step s i 69 (at start K) (at (quantified someRun) K) b refl))
       λ b₅.
       cond-elim (Begun i) (byteIs s i 65)
       (λ b.
-      bracket-law i (i + 1) (omega arith) (inside 65 b) allRuns (byte-step s i 65 (at start K) (at (quantified allRuns) K) b refl))
+      bracket-law i (i + 1) (omega arith) (inside 65 b) allRuns
+      (byte-step s i 65 (at start K) (at (quantified allRuns) K) b refl))
       λ b₆.
       none-begun h
       (from-halt s i (at start K) h refl

@@ -4,7 +4,8 @@ use Prim.Native.Nat.{_≤_}
 use native.Mathlib.Omega.{arith}
 use borrow.Author.Needs.{needs}
 use Rattle.rule_parser.proofs.Around.{one-node}
-use Rattle.rule_parser.proofs.BehindTurn.{finished, negated-one, opening-low, opening-of, unsigned-one, number-small, room-kept}
+use Rattle.rule_parser.proofs.BehindTurn.{finished, negated-one, opening-low}
+use Rattle.rule_parser.proofs.BehindTurn.{opening-of, unsigned-one, number-small, room-kept}
 use Rattle.rule_parser.proofs.BehindTurn.{signed-one, four-deep, closed-one, open-one}
 use Rattle.rule_parser.proofs.behind_turn.Statement.{statement}
 use Rattle.rule_parser.proofs.behind_turn.Tie as tie

@@ -10,6 +10,18 @@ use Rattle.rule_tokens.proofs.pair_from.Tie as tie
 abbrev no-and : tie.After-stands2 → tie.Else1
 no-and c = c .before
 
+and-requires : tie.Need-space-from-requires
+and-requires c κs = (
+  omega (arith, c .before .stands .ensures .1 (c .if1 .taken)),
+  record { join = conj; same = refl; same-number = refl },
+)
+
+or-requires : tie.Need-space-from-requires-2
+or-requires c κs = (
+  omega (arith, c .before .stands2 .ensures .1 (c .if2 .taken)),
+  record { join = disj; same = refl; same-number = refl },
+)
+
 returns : tie.Need-returns
 returns c =
     let then = c .before in
@@ -33,6 +45,6 @@ pub pair-from-spec : {M : Type 1} → statement M
 pair-from-spec =
     tie.close
     (tie.spec (λ c κs. search needs) (λ c. search needs) (λ c. search needs)
-    (λ c κs. (omega (arith, c .before .stands .ensures .1 (c .if1 .taken)), record { join = conj; same = refl; same-number = refl })) returns (λ c κs. search needs)
-    (λ c. search needs) (λ c. search needs) (λ c κs. (omega (arith, c .before .stands2 .ensures .1 (c .if2 .taken)), record { join = disj; same = refl; same-number = refl }))
+    and-requires returns (λ c κs. search needs)
+    (λ c. search needs) (λ c. search needs) or-requires
     returns-2 (λ c κs. search needs) returns-3)

@@ -23,6 +23,14 @@ else4 c = c .before
 abbrev else5 : tie.After-stands6 → tie.Else5
 else5 c = c .before
 
+some-requires : tie.Need-bracket-from-requires
+some-requires c κs =
+    (omega (arith, c .before .stands5 .ensures .1 (c .if5 .taken)), record { runs = someRun; same = refl })
+
+all-requires : tie.Need-bracket-from-requires-2
+all-requires c κs =
+    (omega (arith, c .before .stands6 .ensures .1 (c .if6 .taken)), record { runs = allRuns; same = refl })
+
 returns : tie.Need-returns
 unfolding startOf
 returns c = let one = c .before in c .true-from .ensures ∙ rw (sym (one .before .stands .ensures .0) ∙ one .if1 .taken)
@@ -126,6 +134,6 @@ start-spec =
     (λ c. search needs) (λ c κs. omega (arith, c .before .stands2 .ensures .1 (c .if2 .taken))) returns-2
     (λ c κs. search needs) (λ c. search needs) (λ c κs. search needs) returns-3 (λ c κs. search needs) (λ c. search needs)
     (λ c κs. search needs) returns-4 (λ c κs. search needs) (λ c. search needs)
-    (λ c κs. (omega (arith, c .before .stands5 .ensures .1 (c .if5 .taken)), record { runs = someRun; same = refl })) returns-5 (λ c κs. search needs)
-    (λ c. search needs) (λ c κs. (omega (arith, c .before .stands6 .ensures .1 (c .if6 .taken)), record { runs = allRuns; same = refl })) returns-6
+    some-requires returns-5 (λ c κs. search needs)
+    (λ c. search needs) all-requires returns-6
     (λ c κs. search needs) returns-7)
