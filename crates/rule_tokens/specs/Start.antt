@@ -39,15 +39,24 @@ labelFrom t i = labelOf i (numberFrom 15 t i)
 abbrev pub bracketFrom : Runs → List ℕ → ℕ → Start
 bracketFrom q t i = cond (byteIs t i 40) (opens (timed q) (i + 1)) (nowhere i)
 
+-- the six bytes that an operand starts with, one after another, the last first
+abbrev pub fromA : List ℕ → ℕ → Start
+fromA t i = cond (byteIs t i 65) (bracketFrom allRuns t (i + 1)) (nowhere i)
+
+abbrev pub fromE : List ℕ → ℕ → Start
+fromE t i = cond (byteIs t i 69) (bracketFrom someRun t (i + 1)) (fromA t i)
+
+abbrev pub fromOpen : List ℕ → ℕ → Start
+fromOpen t i = cond (byteIs t i 40) (opens pair (i + 1)) (fromE t i)
+
+abbrev pub fromNot : List ℕ → ℕ → Start
+fromNot t i = cond (byteIs t i 33) (negates (i + 1)) (fromOpen t i)
+
+abbrev pub fromL : List ℕ → ℕ → Start
+fromL t i = cond (byteIs t i 76) (labelFrom t (i + 1)) (fromNot t i)
+
 unfoldable pub startOf : List ℕ → ℕ → Start
-startOf t i =
-    cond (byteIs t i 116) (trueFrom t (i + 1)) (
-    cond (byteIs t i 76) (labelFrom t (i + 1)) (
-    cond (byteIs t i 33) (negates (i + 1)) (
-    cond (byteIs t i 40) (opens pair (i + 1)) (
-    cond (byteIs t i 69) (bracketFrom someRun t (i + 1)) (
-    cond (byteIs t i 65) (bracketFrom allRuns t (i + 1))
-    (nowhere i))))))
+startOf t i = cond (byteIs t i 116) (trueFrom t (i + 1)) (fromL t i)
 
 abbrev pub token : ℕ → ℕ → ℕ → Token
 token tag number end = record { tag = tag; number = number; end = end }
