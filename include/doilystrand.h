@@ -47,11 +47,29 @@ extern "C" {
 /* The most of an arrow whose slot has no end. */
 #define DOILYSTRAND_NO_END 65535
 
-/* Number and place of a refusal; both 0 on success. */
+/* Which paper was wrong, the third entry of an outcome. */
+enum {
+    DOILYSTRAND_NONE_WRONG = 0,
+    DOILYSTRAND_CHART_OR_DETAIL = 1,
+    DOILYSTRAND_OVERVIEW = 2,
+    DOILYSTRAND_RULE = 3,
+    DOILYSTRAND_MAP = 4,
+    DOILYSTRAND_BUFFER = 5
+};
+
+/* Number, place and entry of a refusal; all 0 on success. */
 typedef struct doilystrand_outcome {
     uint32_t number;
     uint32_t place;
+    uint32_t entry;
 } doilystrand_outcome;
+
+/* The words of an outcome, in UTF-8, each filled up with zeros, one at least. */
+typedef struct doilystrand_words {
+    char sentence[128];
+    char paper[16];
+    char counts[16];
+} doilystrand_words;
 
 /* What a call with one output answers: a refusal, or success, and how many bytes it wrote; 0 on a refusal. */
 typedef struct doilystrand_written {
@@ -145,7 +163,7 @@ doilystrand_written doilystrand_read_rule(const uint8_t *text, size_t text_size,
 doilystrand_written doilystrand_write_rule(const uint8_t *rule, size_t rule_size,
                                            uint8_t *output, size_t output_size);
 
-/* Whether the detail chart is one under the overview chart, by the map. */
+/* Whether the detail chart is one under the overview chart, by the map. 1 to 9 and 19 of the overview carry its entry. */
 doilystrand_outcome doilystrand_map_check(const uint8_t *detail, size_t detail_size,
                                           const uint8_t *overview, size_t overview_size,
                                           const uint8_t *map, size_t map_size);
@@ -161,6 +179,13 @@ doilystrand_place doilystrand_row(size_t overview_size, size_t detail_size, bool
  * finished past the last one, and at once over any other bytes.
  */
 doilystrand_arrow_words doilystrand_arrow(const uint8_t *chart, size_t chart_size, size_t number);
+
+/*
+ * What an outcome says in words: the papers' own sentence ("state without an outgoing arrow"), which paper was wrong
+ * ("chart or detail"), and what the place counts ("state"), empty where the papers name no place. Of success, and of a
+ * number that no paper has, the sentence is empty.
+ */
+doilystrand_words doilystrand_words_of(doilystrand_outcome outcome);
 
 #ifdef __cplusplus
 }

@@ -4,7 +4,7 @@ use crate::count_agreement::count_agreement;
 use crate::hurried_agreement::hurried_agreement;
 use crate::input::Input;
 use crate::report::{GROWING, GROWTH};
-use crate::show::{Lent, Show, POSITIONS};
+use crate::show::{self, Lent, Show, POSITIONS};
 use crate::text_agreement::text_agreement;
 use bench::{families, rules, shown, small};
 use std::collections::BTreeMap;
@@ -30,7 +30,7 @@ fn show_agreement() -> Result<(), String> {
     for (chart, rule) in shown::ROWS {
         let (show, steps) = Show::named(chart, rule)?;
         let agreed = show.agree(Lent::whole).map_err(|why| format!("show, {chart}, {rule}: {why}"))?;
-        if agreed.steps() != Some(steps) {
+        if show::steps(agreed) != Some(steps) {
             return Err(format!("show, {chart}, {rule}: both answer {agreed:?}, not a run of {steps} steps"));
         }
     }
@@ -39,7 +39,7 @@ fn show_agreement() -> Result<(), String> {
         for show in asked_of(seed) {
             let agreed = show.agree(|| lent_for(&show));
             let what = || format!("show, seed-{seed}, node {}, state {}", show.node, show.state);
-            *counts.entry(agreed.map_err(|why| format!("{}: {why}", what()))?.number).or_insert(0) += 1;
+            *counts.entry(agreed.map_err(|why| format!("{}: {why}", what()))?.outcome.number).or_insert(0) += 1;
         }
     }
     let counts: Vec<String> = counts.iter().map(|(number, count)| format!("{number} {count} times")).collect();

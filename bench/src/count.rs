@@ -3,7 +3,7 @@
 use crate::input::{Buffers, Input};
 use crate::library_count;
 use crate::timing::{all_in_turn, batches, Plan, Times};
-use bench::peer;
+use bench::peer::{self, Outcome};
 use std::hint::black_box;
 
 /// Rows of scratch that count asks for.
@@ -18,10 +18,10 @@ pub struct Count {
     pub input: Input,
 }
 
-/// One of the peers.
-type Peer = fn(&[u8], &[u8], &mut [u8], &mut [u32]) -> peer::Outcome;
+/// The library's count, or that of one of the peers.
+type Way = fn(&[u8], &[u8], &mut [u8], &mut [u32]) -> Outcome;
 
-const PEERS: [(&str, Peer); 2] = [("plain", peer::plain_count), ("quick", peer::count)];
+const PEERS: [(&str, Way); 2] = [("plain", peer::plain_count), ("quick", peer::count)];
 
 /// The times of the library and of both peers on the same input.
 pub struct CountTimes {
@@ -45,24 +45,21 @@ impl Count {
         Ok(Count { input: Input::named(chart, rule)? })
     }
 
-    pub fn library(&self, lent: &mut Buffers) -> (u32, u32) {
+    pub fn library(&self, lent: &mut Buffers) -> Outcome {
+        self.call(library_count::count, lent)
+    }
+
+    pub fn plain(&self, lent: &mut Buffers) -> Outcome {
+        self.call(peer::plain_count, lent)
+    }
+
+    pub fn quick(&self, lent: &mut Buffers) -> Outcome {
+        self.call(peer::count, lent)
+    }
+
+    fn call(&self, count: Way, lent: &mut Buffers) -> Outcome {
         let (chart, rule) = (black_box(&self.input.chart), black_box(&self.input.rule));
-        let outcome = library_count::count(chart, rule, &mut lent.marks, &mut lent.scratch);
-        black_box((outcome.number, outcome.place))
-    }
-
-    pub fn plain(&self, lent: &mut Buffers) -> (u32, u32) {
-        self.peer(peer::plain_count, lent)
-    }
-
-    pub fn quick(&self, lent: &mut Buffers) -> (u32, u32) {
-        self.peer(peer::count, lent)
-    }
-
-    fn peer(&self, count: Peer, lent: &mut Buffers) -> (u32, u32) {
-        let (chart, rule) = (black_box(&self.input.chart), black_box(&self.input.rule));
-        let outcome = count(chart, rule, &mut lent.marks, &mut lent.scratch);
-        black_box((outcome.number, outcome.place))
+        black_box(count(chart, rule, &mut lent.marks, &mut lent.scratch))
     }
 
     /// The times of all three; what isn't accepted with the peers' marks is not timed.
@@ -85,9 +82,9 @@ impl Count {
 
     /// All accept, with equal marks and scratch, and the marks are those of the library's check.
     pub fn accepted(&self) -> Result<(), String> {
-        let (number, place) = self.agree(lent)?;
-        if (number, place) != (0, 0) {
-            return Err(format!("library and peers refuse: {number} at {place}"));
+        let outcome = self.agree(lent)?;
+        if outcome != Outcome::ACCEPTED {
+            return Err(format!("library and peers refuse: {outcome:?}"));
         }
         let (mut counted, mut checked) = (lent(), Buffers::new());
         self.quick(&mut counted);
@@ -100,12 +97,12 @@ impl Count {
     }
 
     /// What all answer, with equal marks and scratch.
-    pub fn agree(&self, lend: impl Fn() -> Buffers) -> Result<(u32, u32), String> {
+    pub fn agree(&self, lend: impl Fn() -> Buffers) -> Result<Outcome, String> {
         let mut ours = lend();
         let outcome = self.library(&mut ours);
         for (name, count) in PEERS {
             let mut theirs = lend();
-            let answer = self.peer(count, &mut theirs);
+            let answer = self.call(count, &mut theirs);
             if outcome != answer {
                 return Err(format!("outcomes of library and {name} peer: {outcome:?}, {answer:?}"));
             }

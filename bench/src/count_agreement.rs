@@ -40,5 +40,5 @@ fn drawn(seed: u64) -> Result<[u32; 3], String> {
     let scratch = ROWS * usize::from(near.input.sizes()[0]);
     let exact = || Buffers::with_scratch(scratch);
     let short = || Buffers::with_scratch(scratch - 1);
-    Ok([far.agree(lent)?.0, near.agree(exact)?.0, near.agree(short)?.0])
+    Ok([far.agree(lent)?.number, near.agree(exact)?.number, near.agree(short)?.number])
 }

@@ -25,13 +25,13 @@ pub fn hurried_agreement() -> Result<(), String> {
 fn answers(seed: u64) -> Result<[u32; 3], String> {
     let hurried = |rule| Input { chart: drawn::hurried(seed), rule };
     let input = hurried(drawn::rule(seed));
-    let (checked, _) = input.agree()?;
+    let checked = input.agree()?.number;
     let count = Count { input: hurried(counted::near(drawn::rule(seed))) };
-    let (counted, _) = count.agree(lent)?;
+    let counted = count.agree(lent)?.number;
     if counted == 0 {
         count.accepted()?;
     }
     let [n, _, k] = input.sizes().map(usize::from);
     let show = Show { input, node: k - 1, state: seed as usize % n };
-    Ok([checked, counted, show.agree(Lent::whole)?.number])
+    Ok([checked, counted, show.agree(Lent::whole)?.outcome.number])
 }

@@ -1,6 +1,8 @@
 //! One input of check, run on the library or on the peer.
 
+use crate::library_answer::outcome;
 use crate::timing::{in_turn, Pair, Plan};
+use bench::peer::Outcome;
 use bench::{counted, drawn, families, peer, rules, shown, small};
 use std::hint::black_box;
 
@@ -84,28 +86,26 @@ impl Input {
         Ok(in_turn(plan, library, peer))
     }
 
-    pub fn library(&self, buffers: &mut Buffers) -> (u32, u32) {
+    pub fn library(&self, buffers: &mut Buffers) -> Outcome {
         let (chart, rule) = (black_box(&self.chart), black_box(&self.rule));
-        let outcome = doilystrand::check(chart, rule, &mut buffers.marks, &mut buffers.scratch);
-        black_box((outcome.number, outcome.place))
+        black_box(outcome(doilystrand::check(chart, rule, &mut buffers.marks, &mut buffers.scratch)))
     }
 
-    pub fn peer(&self, buffers: &mut Buffers) -> (u32, u32) {
+    pub fn peer(&self, buffers: &mut Buffers) -> Outcome {
         let (chart, rule) = (black_box(&self.chart), black_box(&self.rule));
-        let outcome = peer::check(chart, rule, &mut buffers.marks, &mut buffers.scratch);
-        black_box((outcome.number, outcome.place))
+        black_box(peer::check(chart, rule, &mut buffers.marks, &mut buffers.scratch))
     }
 
     /// Both accept, with equal marks and equal scratch.
     pub fn accepted(&self) -> Result<(), String> {
         match self.agree()? {
-            (0, 0) => Ok(()),
-            (number, place) => Err(format!("library and peer refuse: {number} at {place}")),
+            Outcome::ACCEPTED => Ok(()),
+            refused => Err(format!("library and peer refuse: {refused:?}")),
         }
     }
 
     /// What both answer, with equal marks and scratch.
-    pub fn agree(&self) -> Result<(u32, u32), String> {
+    pub fn agree(&self) -> Result<Outcome, String> {
         let (mut ours, mut theirs) = (Buffers::new(), Buffers::new());
         let (outcome, answer) = (self.library(&mut ours), self.peer(&mut theirs));
         if outcome != answer {

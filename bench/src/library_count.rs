@@ -1,7 +1,8 @@
 //! The library's count, over lent buffers.
 
-use doilystrand::Outcome;
+use crate::library_answer::outcome;
+use bench::peer::Outcome;
 
 pub fn count(chart: &[u8], rule: &[u8], marks: &mut [u8], scratch: &mut [u32]) -> Outcome {
-    doilystrand::count(chart, rule, marks, scratch)
+    outcome(doilystrand::count(chart, rule, marks, scratch))
 }

@@ -1,8 +1,8 @@
 //! The library's show, over lent buffers.
 
-use doilystrand::Outcome;
+use crate::library_answer::written;
+use bench::peer::Written;
 
-/// The outcome, and how many bytes of the output are written.
 pub fn show(
     chart: &[u8],
     rule: &[u8],
@@ -11,9 +11,6 @@ pub fn show(
     node: usize,
     state: usize,
     output: &mut [u8],
-) -> (Outcome, usize) {
-    match doilystrand::show(chart, rule, marks, scratch, node, state, output) {
-        Ok(run) => (Outcome { number: 0, place: 0 }, run.bytes().len()),
-        Err(refusal) => (refusal.outcome(), 0),
-    }
+) -> Written {
+    written(doilystrand::show(chart, rule, marks, scratch, node, state, output).map(|run| run.bytes().len()))
 }

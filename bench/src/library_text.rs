@@ -1,19 +1,12 @@
 //! The library's read and write, over lent outputs.
 
-use doilystrand::{Outcome, Refusal};
+use crate::library_answer::written;
+use bench::peer::Written;
 
-/// The outcome, and how many bytes of the output are written.
-pub fn read(text: &[u8], output: &mut [u8]) -> (Outcome, usize) {
-    answer(doilystrand::read_rule(text, output).map(<[u8]>::len))
+pub fn read(text: &[u8], output: &mut [u8]) -> Written {
+    written(doilystrand::read_rule(text, output).map(<[u8]>::len))
 }
 
-pub fn write(rule: &[u8], output: &mut [u8]) -> (Outcome, usize) {
-    answer(doilystrand::write_rule(rule, output).map(str::len))
-}
-
-fn answer(written: Result<usize, Refusal>) -> (Outcome, usize) {
-    match written {
-        Ok(written) => (Outcome { number: 0, place: 0 }, written),
-        Err(refusal) => (refusal.outcome(), 0),
-    }
+pub fn write(rule: &[u8], output: &mut [u8]) -> Written {
+    written(doilystrand::write_rule(rule, output).map(str::len))
 }

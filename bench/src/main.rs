@@ -18,6 +18,7 @@ mod count_tables;
 mod hurried_agreement;
 mod image;
 mod input;
+mod library_answer;
 mod library_count;
 mod library_show;
 mod library_text;
@@ -34,9 +35,10 @@ mod timing;
 mod typing;
 mod worst;
 
+use bench::peer::{Outcome, Written};
 use count::Count;
 use input::{Buffers, Input};
-use show::{Answer, Lent, Show};
+use show::{steps, Lent, Show};
 use std::process::ExitCode;
 use std::time::Duration;
 use timing::Plan;
@@ -122,30 +124,30 @@ fn one(chart: &str, rule: &str, program: &str, count: &str) -> Result<(), String
 }
 
 /// Whether all of so many checks accept.
-fn checked(chart: &str, rule: &str, count: u32, check: fn(&Input, &mut Buffers) -> (u32, u32)) -> Result<bool, String> {
+fn checked(chart: &str, rule: &str, count: u32, check: fn(&Input, &mut Buffers) -> Outcome) -> Result<bool, String> {
     let (input, mut buffers) = (Input::named(chart, rule)?, Buffers::new());
-    Ok((0..count).all(|_| check(&input, &mut buffers) == (0, 0)))
+    Ok((0..count).all(|_| check(&input, &mut buffers) == Outcome::ACCEPTED))
 }
 
 /// Whether all of so many calls show the run.
-fn shown(chart: &str, rule: &str, count: u32, show: fn(&Show, &mut Lent) -> Answer) -> Result<bool, String> {
-    let ((input, steps), mut lent) = (Show::named(chart, rule)?, Lent::whole());
-    Ok((0..count).all(|_| show(&input, &mut lent).steps() == Some(steps)))
+fn shown(chart: &str, rule: &str, count: u32, show: fn(&Show, &mut Lent) -> Written) -> Result<bool, String> {
+    let ((input, fewest), mut lent) = (Show::named(chart, rule)?, Lent::whole());
+    Ok((0..count).all(|_| steps(show(&input, &mut lent)) == Some(fewest)))
 }
 
 /// Whether all of so many counts of the minutes accept.
-fn counted(chart: &str, rule: &str, times: u32, count: fn(&Count, &mut Buffers) -> (u32, u32)) -> Result<bool, String> {
+fn counted(chart: &str, rule: &str, times: u32, count: fn(&Count, &mut Buffers) -> Outcome) -> Result<bool, String> {
     let (input, mut lent) = (Count::named(chart, rule)?, count::lent());
-    Ok((0..times).all(|_| count(&input, &mut lent) == (0, 0)))
+    Ok((0..times).all(|_| count(&input, &mut lent) == Outcome::ACCEPTED))
 }
 
 /// Whether all of so many calls answer to the text, or the rule, as they are to.
-fn typed(name: &str, rule: &str, count: u32, turn: fn(&Typing, &mut [u8]) -> typing::Answer) -> Result<bool, String> {
+fn typed(name: &str, rule: &str, count: u32, turn: fn(&Typing, &mut [u8]) -> Written) -> Result<bool, String> {
     if rule != "text" {
         return Err(format!("{name} goes with text, not with {rule}"));
     }
     let ((typing, wanted), mut output) = (Typing::named(name)?, typing::lent(typing::ROOM));
-    Ok((0..count).map(|_| turn(&typing, &mut output)).all(|answer| (answer.number, answer.place) == wanted))
+    Ok((0..count).map(|_| turn(&typing, &mut output)).all(|answer| answer.outcome == wanted))
 }
 
 fn files(chart: &str, rule: &str, folder: &str) -> Result<(), String> {

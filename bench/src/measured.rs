@@ -19,6 +19,7 @@ extern "C" {
     fn doilystrand_map_check();
     fn doilystrand_row();
     fn doilystrand_arrow();
+    fn doilystrand_words_of();
 }
 
 /// States and arrows of the largest chart.
@@ -35,6 +36,18 @@ fn call(most: &mut Most, name: &'static str, function: unsafe extern "C" fn(), a
     let known = most.entry(name).or_default();
     *known = taken.bytes.max(*known);
     taken.answer as u32
+}
+
+/// More words than any answer has.
+const ANSWER: usize = 32;
+
+/// The same of a call whose answer is too long for registers: where it is to stand is handed over first, and its first
+/// number is answered.
+fn call_into(most: &mut Most, name: &'static str, function: unsafe extern "C" fn(), arguments: &[&[usize]]) -> u32 {
+    let mut answer = [0usize; ANSWER];
+    let stands: &[usize] = &[answer.as_mut_ptr() as usize];
+    call(most, name, function, &[&[stands], arguments].concat());
+    answer[0] as u32
 }
 
 fn read(bytes: &[u8]) -> [usize; 2] {
@@ -90,7 +103,7 @@ fn shows(most: &mut Most) -> Result<(), String> {
     let mut output = vec![0; 6 * POSITIONS];
     let mut show = |chart: &[u8], rule: &[u8], asked: [usize; 2]| {
         let tables = [lent(&mut buffers.marks), lent(&mut buffers.scratch), asked, lent(&mut output)];
-        call(most, name, doilystrand_show, &[&read(chart), &read(rule), &tables.concat()])
+        call_into(most, name, doilystrand_show, &[&read(chart), &read(rule), &tables.concat()])
     };
     for (chart, rule) in shown::ROWS {
         let row = shown::input(chart, rule).ok_or(format!("no run is shown for {chart} with {rule}"))?;
@@ -115,12 +128,14 @@ fn map_checks(most: &mut Most) -> Result<(), String> {
 /// The texts that are timed, and those of drawn rules with edits, so that reading ends in every way.
 fn reads(most: &mut Most) -> Result<(), String> {
     let (name, mut output) = ("doilystrand_read_rule", lent_output(ROOM));
-    let mut read_rule =
-        |text: &[u8], room: usize| call(most, name, doilystrand_read_rule, &[&read(text), &lent(&mut output[..room])]);
+    let mut read_rule = |text: &[u8], room: usize| {
+        call_into(most, name, doilystrand_read_rule, &[&read(text), &lent(&mut output[..room])])
+    };
     for input in texts::READS {
         let text = texts::read(input).ok_or(format!("no text {input}"))?;
-        expect(name, read_rule(&text.bytes, ROOM), text.answer.0)?;
-        let short = if text.answer.0 == 0 { 66 } else { text.answer.0 };
+        let number = text.answer.number;
+        expect(name, read_rule(&text.bytes, ROOM), number)?;
+        let short = if number == 0 { 66 } else { number };
         expect(name, read_rule(&text.bytes, 0), short)?;
     }
     expect(name, read_rule(&[b'!'; texts::TEXT + 1], ROOM), 65)?;
@@ -138,7 +153,7 @@ fn writes(most: &mut Most) -> Result<(), String> {
     for rule in deep::rules(u16::MAX).into_iter().chain(timed).chain([label]) {
         for (room, expected) in [(ROOM, 0), (0, 66)] {
             let arguments = [read(&rule), lent(&mut output[..room])].concat();
-            expect(name, call(most, name, doilystrand_write_rule, &[&arguments]), expected)?;
+            expect(name, call_into(most, name, doilystrand_write_rule, &[&arguments]), expected)?;
         }
     }
     Ok(())
@@ -152,13 +167,26 @@ fn others(most: &mut Most) -> Result<(), String> {
     }
     call(most, "doilystrand_row", doilystrand_row, &[&[64 * STATES, 64 * STATES, 1, STATES, 63]]);
     let chart = families::chart("random", STATES, ARROWS).ok_or("no chart random")?;
-    // The answer is too long for registers: where it is to stand is handed over first.
-    let mut arrow = [0usize; 4];
-    call(most, "doilystrand_arrow", doilystrand_arrow, &[&[arrow.as_mut_ptr() as usize], &read(&chart), &[ARROWS - 1]]);
-    if arrow[0] as u32 == 1 {
+    let found = call_into(most, "doilystrand_arrow", doilystrand_arrow, &[&read(&chart), &[ARROWS - 1]]);
+    if found == 1 {
         Ok(())
     } else {
         Err("doilystrand_arrow finds no arrow where its stack is looked at".to_string())
+    }
+}
+
+/// Outcomes that the papers have, and others. Number and place share a register, the entry stands in the next one; what
+/// is answered are the first letters of the sentence.
+fn words(most: &mut Most) -> Result<(), String> {
+    let mut told = 0;
+    for (number, entry) in (0..100).flat_map(|number| (0..8).map(move |entry| (number, entry))) {
+        let letters = call_into(most, "doilystrand_words_of", doilystrand_words_of, &[&[number, entry]]);
+        told += usize::from(letters != 0);
+    }
+    if told > 0 {
+        Ok(())
+    } else {
+        Err("doilystrand_words_of tells nothing where its stack is looked at".to_string())
     }
 }
 
@@ -171,5 +199,6 @@ pub fn measured() -> Result<Most, String> {
     reads(&mut most)?;
     writes(&mut most)?;
     others(&mut most)?;
+    words(&mut most)?;
     Ok(most)
 }

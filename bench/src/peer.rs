@@ -31,15 +31,25 @@ pub use read_rule::read_rule;
 pub use show::{show, Written};
 pub use write_rule::write_rule;
 
-/// Number and place of a refusal; both 0 on success.
+/// Number and place of a refusal, and which paper was wrong: 1 the chart, 3 the rule, 5 a buffer. All 0 on success.
 #[derive(Clone, Copy, Debug, PartialEq, Eq)]
 pub struct Outcome {
     pub number: u32,
     pub place: u32,
+    pub entry: u32,
+}
+
+impl Outcome {
+    pub const ACCEPTED: Outcome = Outcome { number: 0, place: 0, entry: 0 };
 }
 
 fn refusal(number: u32, place: usize) -> Outcome {
-    Outcome { number, place: place as u32 }
+    let entry = match number {
+        1..=9 | 19 => 1,
+        17 | 18 | 61 | 62 | 66 => 5,
+        _ => 3,
+    };
+    Outcome { number, place: place as u32, entry }
 }
 
 fn word(bytes: &[u8], at: usize) -> u16 {
@@ -54,7 +64,7 @@ fn stated_length(bytes: &[u8]) -> usize {
 /// Marks every node of the rule at every state of the chart.
 pub fn check(chart: &[u8], rule: &[u8], marks: &mut [u8], scratch: &mut [u32]) -> Outcome {
     match accept(chart, rule, marks, scratch) {
-        Ok(_) => refusal(0, 0),
+        Ok(_) => Outcome::ACCEPTED,
         Err(refused) => refused,
     }
 }

@@ -3,7 +3,8 @@
 use crate::input::Input;
 use crate::library_show;
 use crate::timing::{in_turn, Pair, Plan};
-use bench::{peer, shown};
+use bench::peer::{self, Outcome, Written};
+use bench::shown;
 use std::hint::black_box;
 
 /// Bytes of a position: the state in 2, the duration in 4.
@@ -40,19 +41,10 @@ impl Lent {
     }
 }
 
-#[derive(Clone, Copy, Debug, PartialEq, Eq)]
-pub struct Answer {
-    pub number: u32,
-    pub place: u32,
-    pub written: usize,
-}
-
-impl Answer {
-    /// The steps of the run that is written; none on a refusal.
-    pub fn steps(self) -> Option<usize> {
-        let accepted = (self.number, self.place) == (0, 0) && self.written >= POSITION && self.written % POSITION == 0;
-        accepted.then(|| self.written / POSITION - 1)
-    }
+/// The steps of the run that is written; none on a refusal.
+pub fn steps(Written { outcome, written }: Written) -> Option<usize> {
+    let accepted = outcome == Outcome::ACCEPTED && written >= POSITION && written % POSITION == 0;
+    accepted.then(|| written / POSITION - 1)
 }
 
 impl Show {
@@ -63,18 +55,16 @@ impl Show {
         Ok((Show { input, node: row.node, state: row.state }, row.steps))
     }
 
-    pub fn library(&self, lent: &mut Lent) -> Answer {
+    pub fn library(&self, lent: &mut Lent) -> Written {
         let (chart, rule) = (black_box(&self.input.chart), black_box(&self.input.rule));
         let (marks, scratch, output) = (&mut lent.marks, &mut lent.scratch, &mut lent.output);
-        let (outcome, written) = library_show::show(chart, rule, marks, scratch, self.node, self.state, output);
-        black_box(Answer { number: outcome.number, place: outcome.place, written })
+        black_box(library_show::show(chart, rule, marks, scratch, self.node, self.state, output))
     }
 
-    pub fn peer(&self, lent: &mut Lent) -> Answer {
+    pub fn peer(&self, lent: &mut Lent) -> Written {
         let (chart, rule) = (black_box(&self.input.chart), black_box(&self.input.rule));
         let (marks, scratch, output) = (&mut lent.marks, &mut lent.scratch, &mut lent.output);
-        let shown = peer::show(chart, rule, marks, scratch, self.node, self.state, output);
-        black_box(Answer { number: shown.outcome.number, place: shown.outcome.place, written: shown.written })
+        black_box(peer::show(chart, rule, marks, scratch, self.node, self.state, output))
     }
 
     /// The times of library and peer; a run that hasn't the steps of the peer's is not timed.
@@ -92,7 +82,7 @@ impl Show {
 
     /// What both answer: the same, with equal marks and scratch, and a run of as many steps from the state, which may be
     /// another run. Past the run the output is kept.
-    pub fn agree(&self, lend: impl Fn() -> Lent) -> Result<Answer, String> {
+    pub fn agree(&self, lend: impl Fn() -> Lent) -> Result<Written, String> {
         let (mut ours, mut theirs) = (lend(), lend());
         let answers = (self.library(&mut ours), self.peer(&mut theirs));
         if answers.0 != answers.1 {

@@ -1,6 +1,7 @@
 //! Library and peer compared on every input of read and write, on drawn rules, and on their texts with single edits.
 
-use crate::typing::{Answer, Call, Typing, ROOM};
+use crate::typing::{Call, Typing, ROOM};
+use bench::peer::Written;
 use bench::{drawn, edited, texts};
 use std::collections::BTreeMap;
 
@@ -35,9 +36,9 @@ fn told(counts: &Counts) -> String {
 /// With outputs of every length about what it takes.
 fn named(name: &str) -> Result<(), String> {
     let (typing, answer) = Typing::named(name)?;
-    let Answer { number, place, written } = typing.agree(ROOM)?;
-    if (number, place) != answer {
-        return Err(format!("both answer {number} at {place}, not {answer:?}"));
+    let Written { outcome, written } = typing.agree(ROOM)?;
+    if outcome != answer {
+        return Err(format!("both answer {outcome:?}, not {answer:?}"));
     }
     outputs(&typing, written, &mut Counts::new())
 }
@@ -45,7 +46,7 @@ fn named(name: &str) -> Result<(), String> {
 /// Just enough, one byte more and fewer, and none.
 fn outputs(typing: &Typing, written: usize, counts: &mut Counts) -> Result<(), String> {
     for output in [written + 1, written, written.saturating_sub(1), 0] {
-        *counts.entry(typing.agree(output)?.number).or_insert(0) += 1;
+        *counts.entry(typing.agree(output)?.outcome.number).or_insert(0) += 1;
     }
     Ok(())
 }
@@ -68,8 +69,8 @@ fn drawn_texts(seed: u64, counts: &mut Counts) -> Result<(), String> {
     for bytes in edited::texts(seed) {
         let typing = Typing { call: Call::Read, bytes };
         let answer = typing.agree(ROOM)?;
-        *counts.entry(answer.number).or_insert(0) += 1;
-        if answer.number == 0 {
+        *counts.entry(answer.outcome.number).or_insert(0) += 1;
+        if answer.outcome.number == 0 {
             outputs(&typing, answer.written, counts)?;
         }
     }

@@ -2,6 +2,7 @@
 
 use crate::timing::{Pair, Plan};
 use crate::typing::Typing;
+use bench::peer::Outcome;
 use bench::texts;
 
 pub fn text_tables(plan: &Plan) -> Result<(), String> {
@@ -15,7 +16,7 @@ fn table(plan: &Plan, names: &[&str]) -> Result<(), String> {
     println!("| input | answer | library median | library best | peer median | peer best | library / peer |");
     println!("|---|---|---:|---:|---:|---:|---:|");
     for name in names {
-        let (typing, (number, place)) = Typing::named(name)?;
+        let (typing, Outcome { number, place, .. }) = Typing::named(name)?;
         let times = typing.times(plan).map_err(|why| format!("{name}: {why}"))?;
         println!("| {name} | {number} at {place} | {} |", cells(&times));
     }

@@ -1,6 +1,6 @@
 //! Inputs of read and write: texts of 10, 64, 532 and 4,096 bytes, and rules that have such a text.
 
-use crate::peer;
+use crate::peer::{self, Outcome};
 
 /// Of read; those of 4,096 bytes are refused, since no text above 532 has at most 64 nodes.
 pub const READS: [&str; 7] =
@@ -20,24 +20,25 @@ const SHORT: &str = "(L0 & !L1)";
 const MIDDLE: &str = "(A(true U<=14 L1) | (E(!L2 U>=60 (L3 & L4)) & !A(L0 U<=15 L15)))";
 const LAST: &str = "E(L5 U<=65535 (L6 | !L7))";
 
-/// What a call is handed, and the number and place that it answers.
+/// What a call is handed, and the outcome that it answers.
 pub struct Text {
     pub bytes: Vec<u8>,
-    pub answer: (u32, u32),
+    pub answer: Outcome,
 }
 
 /// The text of that name; no such text gives none.
 pub fn read(name: &str) -> Option<Text> {
-    let refused = |bytes: Vec<u8>, number, place| Some(Text { bytes, answer: (number, place) });
+    let taken = |bytes: Vec<u8>| Some(Text { bytes, answer: Outcome::ACCEPTED });
+    let refused = |bytes: Vec<u8>, number, place, entry| Some(Text { bytes, answer: Outcome { number, place, entry } });
     let last = TEXT as u32 - 1;
     match name {
-        "read-10" => refused(SHORT.into(), 0, 0),
-        "read-64" => refused(MIDDLE.into(), 0, 0),
-        "read-532" => refused(longest().into(), 0, 0),
-        "read-4096" => refused(large().into(), 65, 0),
-        "read-4096-last" => refused([&large().as_bytes()[..TEXT - 1], b"!"].concat(), 64, last),
-        "read-4096-nots" => refused(("!".repeat(TEXT - 4) + "true").into(), 65, 0),
-        "read-4096-brackets" => refused("(".repeat(TEXT).into(), 64, TEXT as u32),
+        "read-10" => taken(SHORT.into()),
+        "read-64" => taken(MIDDLE.into()),
+        "read-532" => taken(longest().into()),
+        "read-4096" => refused(large().into(), 65, 0, 3),
+        "read-4096-last" => refused([&large().as_bytes()[..TEXT - 1], b"!"].concat(), 64, last, 3),
+        "read-4096-nots" => refused(("!".repeat(TEXT - 4) + "true").into(), 65, 0, 3),
+        "read-4096-brackets" => refused("(".repeat(TEXT).into(), 64, TEXT as u32, 3),
         _ => None,
     }
 }
@@ -50,7 +51,7 @@ pub fn write(name: &str) -> Option<Text> {
         "write-532" => longest(),
         _ => return None,
     };
-    Some(Text { bytes: rule(text.as_bytes())?, answer: (0, 0) })
+    Some(Text { bytes: rule(text.as_bytes())?, answer: Outcome::ACCEPTED })
 }
 
 /// The rule that a text stands for, by the peer.

@@ -2,7 +2,8 @@
 
 use crate::library_text;
 use crate::timing::{in_turn, Pair, Plan};
-use bench::{peer, texts};
+use bench::peer::{self, Outcome, Written};
+use bench::texts;
 use std::hint::black_box;
 
 /// Enough for every rule and every text of one.
@@ -20,13 +21,6 @@ pub struct Typing {
     pub bytes: Vec<u8>,
 }
 
-#[derive(Clone, Copy, Debug, PartialEq, Eq)]
-pub struct Answer {
-    pub number: u32,
-    pub place: u32,
-    pub written: usize,
-}
-
 /// Filled with what neither program writes, so that kept content shows.
 pub fn lent(size: usize) -> Vec<u8> {
     vec![0xAA; size]
@@ -34,29 +28,27 @@ pub fn lent(size: usize) -> Vec<u8> {
 
 impl Typing {
     /// The input of that name, and what it is answered with.
-    pub fn named(name: &str) -> Result<(Typing, (u32, u32)), String> {
+    pub fn named(name: &str) -> Result<(Typing, Outcome), String> {
         let read = texts::read(name).map(|text| (Call::Read, text));
         let found = read.or_else(|| texts::write(name).map(|text| (Call::Write, text)));
         let (call, text) = found.ok_or(format!("no text {name}"))?;
         Ok((Typing { call, bytes: text.bytes }, text.answer))
     }
 
-    pub fn library(&self, output: &mut [u8]) -> Answer {
+    pub fn library(&self, output: &mut [u8]) -> Written {
         let bytes = black_box(&self.bytes);
-        let (outcome, written) = match self.call {
+        black_box(match self.call {
             Call::Read => library_text::read(bytes, output),
             Call::Write => library_text::write(bytes, output),
-        };
-        black_box(Answer { number: outcome.number, place: outcome.place, written })
+        })
     }
 
-    pub fn peer(&self, output: &mut [u8]) -> Answer {
+    pub fn peer(&self, output: &mut [u8]) -> Written {
         let bytes = black_box(&self.bytes);
-        let peer::Written { outcome, written } = match self.call {
+        black_box(match self.call {
             Call::Read => peer::read_rule(bytes, output),
             Call::Write => peer::write_rule(bytes, output),
-        };
-        black_box(Answer { number: outcome.number, place: outcome.place, written })
+        })
     }
 
     /// The times of library and peer; an answer that isn't the peer's is not timed.
@@ -73,7 +65,7 @@ impl Typing {
     }
 
     /// What both answer with so much output, which both leave alike.
-    pub fn agree(&self, output: usize) -> Result<Answer, String> {
+    pub fn agree(&self, output: usize) -> Result<Written, String> {
         let (mut ours, mut theirs) = (lent(output), lent(output));
         let answers = (self.library(&mut ours), self.peer(&mut theirs));
         if answers.0 != answers.1 {

@@ -29,9 +29,9 @@ int main(int count, char **words) {
     doilystrand_outcome o = doilystrand_check(chart, chart_size, rule, rule_size, marks, DOILYSTRAND_MAX_MARKS,
                                               scratch, DOILYSTRAND_MAX_SCRATCH);
     if (o.number != 0) {
-        const char *which = (o.number >= 10 && o.number <= 16) || o.number == 63 ? "rule" : "chart";
-        fprintf(stderr, "the %s is refused, number %u at place %u (include/refusals.txt says what for)\n", which,
-                (unsigned)o.number, (unsigned)o.place);
+        doilystrand_words w = doilystrand_words_of(o);
+        fprintf(stderr, "refused %u at %u %u: %s (%s)\n", (unsigned)o.number, (unsigned)o.place, (unsigned)o.entry,
+                w.sentence, w.paper);
         return 1;
     }
     /* How many states and nodes there are stands in bytes 5 and 6. The rule itself is its last node. */

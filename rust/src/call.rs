@@ -9,6 +9,14 @@ pub struct CodedWritten {
     pub written: usize,
 }
 
+/// The words of an outcome, each filled up with zeros, one at least.
+#[repr(C)]
+pub struct CodedWords {
+    pub sentence: [u8; 128],
+    pub paper: [u8; 16],
+    pub counts: [u8; 16],
+}
+
 /// Kind of rule's answer: the kind is 0 for neither, 1 all-runs, 2 some-run, 3 both.
 #[repr(C)]
 pub struct CodedAnswer {
@@ -95,4 +103,5 @@ extern "C" {
     ) -> Outcome;
     pub fn doilystrand_row(overview_size: usize, detail_size: usize, choice: bool, n: usize, t: usize) -> Place;
     pub fn doilystrand_arrow(chart: *const u8, chart_size: usize, number: usize) -> CodedArrow;
+    pub fn doilystrand_words_of(outcome: Outcome) -> CodedWords;
 }

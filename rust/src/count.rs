@@ -21,7 +21,7 @@ use crate::Outcome;
 ///
 /// rule[29] = 1; // at least 261
 /// let refusal = doilystrand::count(&chart, &rule, &mut marks, &mut scratch).into_result().unwrap_err();
-/// assert_eq!(refusal.to_string(), "refused 63 at 2: a bound above 255 (node 2)");
+/// assert_eq!(refusal.to_string(), "refused 63 at 2 3: a bound above 255 (rule, node 2)");
 /// ```
 #[must_use = "the marks are written only on acceptance"]
 pub fn count(chart: &[u8], rule: &[u8], marks: &mut [u8], scratch: &mut [u32]) -> Outcome {

@@ -1,6 +1,6 @@
 //! Safe calls into the proved checker of timed rules over dispatch charts.
 //!
-//! The library takes any bytes and tests them itself, so no input is tested here. Answers are: a number, a kind, a
+//! The library takes any bytes and tests them itself, so no input is tested here. Answers are: a number, an entry, a kind, a
 //! place in a table, a count of bytes written, a byte of a text, or a mark of [`marks`](marks()), that the library
 //! promises never to give ends in a panic that names it. What is promised of each call stands in `docs/PROMISES.md`,
 //! the formats in `README.md`.
@@ -18,7 +18,7 @@
 //! assert_eq!(marks.rule_row(), [0, 1, 1]);
 //!
 //! let refusal = doilystrand::marks(&chart[..38], &rule).unwrap_err();
-//! assert_eq!(refusal.to_string(), "refused 3 at 0: chart's stated length is not the real one");
+//! assert_eq!(refusal.to_string(), "refused 3 at 0 1: chart's stated length is not the real one (chart or detail)");
 //!
 //! // The rule can be typed as text, and is written back as text.
 //! assert_eq!(doilystrand::rule_of("A(true U<=13 L2)")?, rule);
@@ -37,7 +37,6 @@ mod marking;
 mod marks;
 mod outcome;
 mod read_rule;
-mod refusals;
 mod row;
 mod run;
 #[cfg(test)]
@@ -45,6 +44,7 @@ mod samples;
 mod show;
 mod texts;
 mod why;
+mod words;
 mod write_rule;
 mod written;
 
@@ -63,4 +63,5 @@ pub use run::{Position, Run};
 pub use show::show;
 pub use texts::{rule_of, text_of};
 pub use why::why;
+pub use words::Words;
 pub use write_rule::write_rule;

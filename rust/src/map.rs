@@ -8,7 +8,7 @@ use crate::{call, Outcome};
 /// let chart = [1, 0, 0, 0, 19, 0, 1, 0, 1, 0, 0, 0, 0, 0, 0, 0, 1, 0, 1]; // one state, an arrow of 1 to 1 minutes
 /// let map = [1, 0, 0, 0, 9, 0, 1, 0, 0]; // state 0 stands for overview state 0
 /// assert!(doilystrand::map_check(&chart, &chart, &map).is_accepted());
-/// assert_eq!(doilystrand::map_check(&chart, &[], &map).meaning(), "overview: chart under 9 bytes");
+/// assert_eq!(doilystrand::map_check(&chart, &[], &map).to_string(), "refused 1 at 0 2"); // 2: of the overview
 /// ```
 #[must_use = "it only answers"]
 pub fn map_check(detail: &[u8], overview: &[u8], map: &[u8]) -> Outcome {
@@ -23,5 +23,5 @@ pub fn map_check(detail: &[u8], overview: &[u8], map: &[u8]) -> Outcome {
             map.len(),
         )
     };
-    outcome.of_call(&[1..=9, 19..=23, 41..=49, 59..=59])
+    outcome.of_call(&[1..=9, 19..=23])
 }

@@ -24,7 +24,7 @@ pub struct Marks {
 /// assert!(marks.holds(0, 0));
 ///
 /// let refusal = doilystrand::marks(&chart, &[]).unwrap_err();
-/// assert_eq!(refusal.to_string(), "refused 10 at 0: rule under 7 bytes");
+/// assert_eq!(refusal.to_string(), "refused 10 at 0 3: rule under 7 bytes (rule)");
 /// # Ok::<(), doilystrand::Refusal>(())
 /// ```
 pub fn marks(chart: &[u8], rule: &[u8]) -> Result<Marks, Refusal> {

@@ -1,18 +1,16 @@
-//! What a call answers: accepted, or refused with a number and a place.
+//! What a call answers: accepted, or refused with a number, a place and an entry.
 
 use std::error::Error;
 use std::fmt;
 use std::ops::RangeInclusive;
 
-use crate::refusals::Row;
-
-/// Number and place of a refusal; both 0 on success.
+/// Number and place of a refusal, and which paper was wrong: 1 chart or detail, 2 overview, 3 rule, 4 map, 5 a buffer.
+/// All are 0 on success.
 ///
 /// ```
-/// let outcome = doilystrand::Outcome { number: 9, place: 2 };
+/// let outcome = doilystrand::Outcome { number: 9, place: 2, entry: 1 };
 /// assert!(!outcome.is_accepted());
-/// assert_eq!(outcome.to_string(), "refused 9 at 2");
-/// assert_eq!(outcome.meaning(), "state without an outgoing arrow");
+/// assert_eq!(outcome.to_string(), "refused 9 at 2 1");
 /// ```
 #[must_use = "a refusal is told nowhere else"]
 #[repr(C)]
@@ -20,6 +18,7 @@ use crate::refusals::Row;
 pub struct Outcome {
     pub number: u32,
     pub place: u32,
+    pub entry: u32,
 }
 
 impl Outcome {
@@ -29,26 +28,15 @@ impl Outcome {
         self.number == 0
     }
 
-    /// What was refused, in the words of the customer's table; 41 to 49 and 59 are 1 to 9 and 19 of the overview.
-    #[must_use]
-    pub fn meaning(self) -> &'static str {
-        if self.is_accepted() {
-            return "accepted";
-        }
-        Row::of(self.number).map_or("not a number of the table of refusals", |row| row.condition)
-    }
-
-    /// What the place is the number of, `"arrow"` for one; none where the table names no place, which then is 0.
-    #[must_use]
-    pub fn place_counts(self) -> Option<&'static str> {
-        Row::of(self.number)?.place
-    }
-
     /// The outcome, where it is one that a call with these numbers can answer.
     pub(crate) fn of_call(self, numbers: &[RangeInclusive<u32>]) -> Outcome {
-        let Outcome { number, place } = self;
-        let known = if number == 0 { place == 0 } else { numbers.iter().any(|range| range.contains(&number)) };
-        assert!(known, "the library answers number {number} at place {place}, which this call never does");
+        let Outcome { number, place, entry } = self;
+        let known = if number == 0 {
+            (place, entry) == (0, 0)
+        } else {
+            numbers.iter().any(|range| range.contains(&number)) && (1..=5).contains(&entry)
+        };
+        assert!(known, "the library answers number {number} at place {place} with entry {entry}, which this call never does");
         self
     }
 
@@ -66,13 +54,13 @@ impl Outcome {
     }
 }
 
-/// `accepted`, or a refusal as the desk program prints it: `refused 9 at 2`.
+/// `accepted`, or a refusal as the desk program prints it: `refused 9 at 2 1`.
 impl fmt::Display for Outcome {
     fn fmt(&self, f: &mut fmt::Formatter<'_>) -> fmt::Result {
         if self.is_accepted() {
             return f.write_str("accepted");
         }
-        write!(f, "refused {} at {}", self.number, self.place)
+        write!(f, "refused {} at {} {}", self.number, self.place, self.entry)
     }
 }
 
@@ -83,20 +71,21 @@ pub struct Refusal {
 }
 
 impl Refusal {
-    /// Its number and place.
+    /// Its number, place and entry.
     pub fn outcome(self) -> Outcome {
         self.outcome
     }
 }
 
-/// Number and place, then in words: `refused 9 at 2: state without an outgoing arrow (state 2)`.
+/// The refused line, then in words: `refused 9 at 2 1: state without an outgoing arrow (chart or detail, state 2)`.
 impl fmt::Display for Refusal {
     fn fmt(&self, f: &mut fmt::Formatter<'_>) -> fmt::Result {
-        write!(f, "{}: {}", self.outcome, self.outcome.meaning())?;
-        match self.outcome.place_counts() {
-            Some(what) => write!(f, " ({what} {})", self.outcome.place),
-            None => Ok(()),
+        let words = self.outcome.words();
+        write!(f, "{}: {} ({}", self.outcome, words.sentence(), words.paper())?;
+        if !words.counts().is_empty() {
+            write!(f, ", {} {}", words.counts(), self.outcome.place)?;
         }
+        f.write_str(")")
     }
 }
 
@@ -106,55 +95,55 @@ impl Error for Refusal {}
 mod tests {
     use super::*;
 
-    const ACCEPTED: Outcome = Outcome { number: 0, place: 0 };
+    const ACCEPTED: Outcome = Outcome { number: 0, place: 0, entry: 0 };
 
-    fn refusal(number: u32, place: u32) -> Refusal {
-        Outcome { number, place }.into_result().expect_err("a refusal")
+    fn refusal(number: u32, place: u32, entry: u32) -> Refusal {
+        Outcome { number, place, entry }.into_result().expect_err("a refusal")
     }
 
     #[test]
     fn acceptance_is_no_error() {
         assert!(ACCEPTED.is_accepted());
         assert_eq!(ACCEPTED.into_result(), Ok(()));
-        assert_eq!((ACCEPTED.to_string().as_str(), ACCEPTED.meaning()), ("accepted", "accepted"));
-        assert_eq!(ACCEPTED.place_counts(), None);
+        assert_eq!(ACCEPTED.to_string(), "accepted");
     }
 
     #[test]
-    fn refusals_keep_number_and_place() {
-        assert_eq!(refusal(19, 7).outcome(), Outcome { number: 19, place: 7 });
-        assert!(!refusal(19, 7).outcome().is_accepted());
+    fn refusals_keep_number_place_and_entry() {
+        assert_eq!(refusal(19, 7, 2).outcome(), Outcome { number: 19, place: 7, entry: 2 });
+        assert!(!refusal(19, 7, 2).outcome().is_accepted());
     }
 
     #[test]
     fn refusals_are_told_in_words() {
-        assert_eq!(refusal(1, 0).to_string(), "refused 1 at 0: chart under 9 bytes");
-        assert_eq!(refusal(23, 4).to_string(), "refused 23 at 4: arrow not covered (detail arrow 4)");
-        assert_eq!(refusal(48, 3).outcome().place_counts(), Some("overview arrow"));
+        assert_eq!(refusal(1, 0, 2).to_string(), "refused 1 at 0 2: chart under 9 bytes (overview)");
+        let uncovered = "refused 23 at 4 1: arrow not covered (chart or detail, detail arrow 4)";
+        assert_eq!(refusal(23, 4, 1).to_string(), uncovered);
     }
 
     #[test]
     fn outcomes_of_a_call_pass() {
-        for (number, place) in [(0, 0), (1, 0), (9, 255), (19, 4)] {
-            let outcome = Outcome { number, place };
+        for (number, place, entry) in [(0, 0, 0), (1, 0, 1), (9, 255, 2), (19, 4, 1)] {
+            let outcome = Outcome { number, place, entry };
             assert_eq!(outcome.of_call(&[1..=9, 19..=19]), outcome);
         }
     }
 
     #[test]
-    #[should_panic = "the library answers number 10 at place 0, which this call never does"]
+    #[should_panic = "the library answers number 10 at place 0 with entry 3, which this call never does"]
     fn another_calls_number_panics() {
-        let _ = Outcome { number: 10, place: 0 }.of_call(&[1..=9, 19..=19]);
+        let _ = Outcome { number: 10, place: 0, entry: 3 }.of_call(&[1..=9, 19..=19]);
     }
 
     #[test]
-    #[should_panic = "the library answers number 0 at place 7, which this call never does"]
+    #[should_panic = "the library answers number 0 at place 7 with entry 0, which this call never does"]
     fn acceptance_at_a_place_panics() {
-        let _ = Outcome { number: 0, place: 7 }.of_call(&[1..=19]);
+        let _ = Outcome { number: 0, place: 7, entry: 0 }.of_call(&[1..=19]);
     }
 
     #[test]
-    fn unknown_numbers_are_told() {
-        assert_eq!(refusal(99, 5).to_string(), "refused 99 at 5: not a number of the table of refusals");
+    #[should_panic = "the library answers number 9 at place 2 with entry 0, which this call never does"]
+    fn refusal_of_no_paper_panics() {
+        let _ = Outcome { number: 9, place: 2, entry: 0 }.of_call(&[1..=19]);
     }
 }

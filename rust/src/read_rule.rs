@@ -23,7 +23,7 @@ use crate::{call, Refusal};
 /// assert_eq!(rule, [1, 0, 0, 0, 23, 0, 2, 1, 0, 0, 15, 0, 0, 0, 0, 2, 0, 0, 0, 0, 0, 0, 0]);
 ///
 /// let refusal = read_rule(b"!L16", &mut output).unwrap_err();
-/// assert_eq!(refusal.to_string(), "refused 64 at 3: text not of the grammar (byte 3)");
+/// assert_eq!(refusal.to_string(), "refused 64 at 3 3: text not of the grammar (rule, byte 3)");
 /// # Ok::<(), doilystrand::Refusal>(())
 /// ```
 pub fn read_rule<'a>(text: &[u8], output: &'a mut [u8]) -> Result<&'a [u8], Refusal> {

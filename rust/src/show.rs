@@ -28,7 +28,7 @@ use crate::{call, Refusal, Run};
 /// assert!(run.positions().eq([3, 3, 0].map(|duration| Position { state: 0, duration })));
 ///
 /// let refusal = show(&chart, &rule, &mut marks, &mut scratch, 2, 0, &mut output[..17]).unwrap_err();
-/// assert_eq!(refusal.to_string(), "refused 62 at 0: no true run of at most 256 steps fits the output");
+/// assert_eq!(refusal.to_string(), "refused 62 at 0 5: no true run of at most 256 steps fits the output (a buffer)");
 /// # Ok::<(), doilystrand::Refusal>(())
 /// ```
 pub fn show<'a>(

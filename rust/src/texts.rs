@@ -14,7 +14,7 @@ use crate::{read_rule, write_rule, Refusal, MAX_RULE, MAX_RULE_TEXT};
 /// assert_eq!(rule, [1, 0, 0, 0, 31, 0, 3, 0, 0, 0, 0, 0, 0, 0, 0, 1, 0, 0, 2, 0, 0, 0, 0, 6, 1, 0, 0, 0, 1, 0, 14]);
 ///
 /// let refusal = doilystrand::rule_of("A(true U<=007 L2)").unwrap_err();
-/// assert_eq!(refusal.to_string(), "refused 64 at 11: text not of the grammar (byte 11)");
+/// assert_eq!(refusal.to_string(), "refused 64 at 11 3: text not of the grammar (rule, byte 11)");
 /// # Ok::<(), doilystrand::Refusal>(())
 /// ```
 pub fn rule_of(text: &str) -> Result<Vec<u8>, Refusal> {
@@ -32,7 +32,7 @@ pub fn rule_of(text: &str) -> Result<Vec<u8>, Refusal> {
 /// assert_eq!(doilystrand::text_of(&rule)?, "true");
 ///
 /// let refusal = doilystrand::text_of(&[]).unwrap_err();
-/// assert_eq!(refusal.to_string(), "refused 10 at 0: rule under 7 bytes");
+/// assert_eq!(refusal.to_string(), "refused 10 at 0 3: rule under 7 bytes (rule)");
 /// # Ok::<(), doilystrand::Refusal>(())
 /// ```
 pub fn text_of(rule: &[u8]) -> Result<String, Refusal> {

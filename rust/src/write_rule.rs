@@ -21,7 +21,7 @@ use crate::{call, Refusal};
 /// assert_eq!(write_rule(&rule, &mut output)?, "!L15");
 ///
 /// let refusal = write_rule(&rule, &mut output[..3]).unwrap_err();
-/// assert_eq!(refusal.to_string(), "refused 66 at 0: output short");
+/// assert_eq!(refusal.to_string(), "refused 66 at 0 5: output short (a buffer)");
 /// # Ok::<(), doilystrand::Refusal>(())
 /// ```
 pub fn write_rule<'a>(rule: &[u8], output: &'a mut [u8]) -> Result<&'a str, Refusal> {

@@ -25,7 +25,8 @@ mod tests {
     const OUTPUT: [u8; 6] = [1, 2, 3, 4, 5, 6];
 
     fn of(number: u32, place: u32, written: usize) -> Result<&'static [u8], (u32, u32)> {
-        let coded = CodedWritten { outcome: Outcome { number, place }, written };
+        let entry = u32::from(number != 0);
+        let coded = CodedWritten { outcome: Outcome { number, place, entry }, written };
         front(coded, &[64..=66], &OUTPUT).map_err(|refusal| (refusal.outcome().number, refusal.outcome().place))
     }
 
@@ -36,7 +37,7 @@ mod tests {
     }
 
     #[test]
-    #[should_panic = "the library answers 6 bytes written, and yet refused 64 at 0"]
+    #[should_panic = "the library answers 6 bytes written, and yet refused 64 at 0 1"]
     fn bytes_of_a_refusal_panic() {
         let _ = of(64, 0, 6);
     }
@@ -48,7 +49,7 @@ mod tests {
     }
 
     #[test]
-    #[should_panic = "the library answers number 63 at place 2, which this call never does"]
+    #[should_panic = "the library answers number 63 at place 2 with entry 1, which this call never does"]
     fn another_calls_number_panics() {
         let _ = of(63, 2, 0);
     }

@@ -19,6 +19,14 @@ _Static_assert(DOILYSTRAND_MAX_COUNT_SCRATCH == 256 * 256, "largest scratch of a
 _Static_assert(DOILYSTRAND_MAX_TEXT == 4096, "longest text that is read");
 _Static_assert(DOILYSTRAND_MAX_RULE_TEXT == 31 * 13 + 32 * 4 + 1, "longest text of a rule");
 _Static_assert(DOILYSTRAND_NO_END == UINT16_MAX, "no end");
+_Static_assert(sizeof(doilystrand_outcome) == 12, "three numbers of 4 bytes");
+_Static_assert(offsetof(doilystrand_outcome, number) == 0, "number first");
+_Static_assert(offsetof(doilystrand_outcome, place) == 4, "then the place");
+_Static_assert(offsetof(doilystrand_outcome, entry) == 8, "then the entry");
+_Static_assert(DOILYSTRAND_NONE_WRONG == 0 && DOILYSTRAND_CHART_OR_DETAIL == 1 && DOILYSTRAND_OVERVIEW == 2 &&
+               DOILYSTRAND_RULE == 3 && DOILYSTRAND_MAP == 4 && DOILYSTRAND_BUFFER == 5, "the papers' entries");
+_Static_assert(offsetof(doilystrand_written, written) == 16, "behind the outcome");
+_Static_assert(offsetof(doilystrand_kind_answer, kind) == 12, "behind the outcome");
 
 static int failures;
 
@@ -29,8 +37,8 @@ static void expect(bool held, const char *what) {
     }
 }
 
-static bool is(doilystrand_outcome o, uint32_t number, uint32_t place) {
-    return o.number == number && o.place == place;
+static bool is(doilystrand_outcome o, uint32_t number, uint32_t place, uint32_t entry) {
+    return o.number == number && o.place == place && o.entry == entry;
 }
 
 /* Short: 0 to 1 in 5 to 10 minutes, 1 to 2 in 0 to 4, 2 to 0 in 20 to no end. */
@@ -54,7 +62,7 @@ static void marks_are_written(void) {
     uint32_t scratch[13];
     memset(marks, 77, sizeof marks);
     for (int i = 0; i < 13; i++) scratch[i] = 7;
-    expect(is(doilystrand_check(short_chart, sizeof short_chart, rule, sizeof rule, marks, 10, scratch, 13), 0, 0),
+    expect(is(doilystrand_check(short_chart, sizeof short_chart, rule, sizeof rule, marks, 10, scratch, 13), 0, 0, 0),
            "check refuses Short");
     expect(memcmp(marks, listed, sizeof listed) == 0, "check writes other marks");
     for (int i = 0; i < 12; i++) expect(scratch[i] == 0, "scratch is not cleared");
@@ -64,13 +72,20 @@ static void marks_are_written(void) {
 static void refusals_are_told(void) {
     uint8_t marks[9];
     uint32_t scratch[12];
-    expect(is(doilystrand_check(NULL, 0, rule, sizeof rule, marks, 9, scratch, 12), 1, 0), "an empty chart is not 1");
-    expect(is(doilystrand_check(short_chart, sizeof short_chart, NULL, 0, marks, 9, scratch, 12), 10, 0),
+    expect(is(doilystrand_check(NULL, 0, rule, sizeof rule, marks, 9, scratch, 12), 1, 0, 1),
+           "an empty chart is not 1");
+    expect(is(doilystrand_check(short_chart, sizeof short_chart, NULL, 0, marks, 9, scratch, 12), 10, 0, 3),
            "an empty rule is not 10");
-    expect(is(doilystrand_check(short_chart, sizeof short_chart, rule, sizeof rule, NULL, 0, NULL, 0), 17, 0),
+    expect(is(doilystrand_check(short_chart, sizeof short_chart, rule, sizeof rule, NULL, 0, NULL, 0), 17, 0, 5),
            "an empty marks table is not 17");
-    expect(is(doilystrand_check(short_chart, sizeof short_chart, rule, sizeof rule, marks, 9, scratch, 11), 18, 0),
+    expect(is(doilystrand_check(short_chart, sizeof short_chart, rule, sizeof rule, marks, 9, scratch, 11), 18, 0, 5),
            "11 numbers are not 18");
+}
+
+/* Short with states 0 and 1 leading to themselves, 1 in 0 to 0 minutes. */
+static void make_stuck(uint8_t stuck[sizeof short_chart]) {
+    memcpy(stuck, short_chart, sizeof short_chart);
+    stuck[18] = 0, stuck[26] = 1, stuck[30] = 0;
 }
 
 /* What Short and a rule of three nodes are counted with: 9 marks and 768 numbers, and one more of each. */
@@ -97,20 +112,21 @@ static void minutes_are_counted(void) {
     size_t size = sizeof short_chart;
     memcpy(late_rule, rule, sizeof rule);
     late_rule[29] = 1; /* at most 269 */
-    memcpy(stuck, short_chart, size);
-    stuck[18] = 0, stuck[26] = 1, stuck[30] = 0; /* states 0 and 1 lead to themselves, 1 in 0 to 0 minutes */
-    expect(is(counted(short_chart, size, rule, sizeof rule, 10, 769), 0, 0), "count refuses Short");
+    make_stuck(stuck);
+    expect(is(counted(short_chart, size, rule, sizeof rule, 10, 769), 0, 0, 0), "count refuses Short");
     expect_counted(listed, 768);
-    expect(is(counted(short_chart, size, rule, sizeof rule, 9, 768), 0, 0), "what is just enough for a count is not");
-    expect(is(counted(short_chart, size, late_rule, sizeof late_rule, 0, 0), 63, 2), "a bound of 269 is not 63");
+    expect(is(counted(short_chart, size, rule, sizeof rule, 9, 768), 0, 0, 0),
+           "what is just enough for a count is not");
+    expect(is(counted(short_chart, size, late_rule, sizeof late_rule, 0, 0), 63, 2, 3), "a bound of 269 is not 63");
     expect_counted(lent, 0);
-    expect(is(counted(short_chart, size, rule, sizeof rule, 8, 767), 17, 0), "8 marks are not 17");
+    expect(is(counted(short_chart, size, rule, sizeof rule, 8, 767), 17, 0, 5), "8 marks are not 17");
     expect_counted(lent, 0);
-    expect(is(counted(short_chart, size, rule, sizeof rule, 9, 767), 18, 0), "767 numbers are not 18");
+    expect(is(counted(short_chart, size, rule, sizeof rule, 9, 767), 18, 0, 5), "767 numbers are not 18");
     expect_counted(lent, 0);
-    expect(is(counted(stuck, size, rule, sizeof rule, 9, 769), 19, 1), "a state from which no time can pass is not 19");
+    expect(is(counted(stuck, size, rule, sizeof rule, 9, 769), 19, 1, 1),
+           "a state from which no time can pass is not 19");
     expect_counted(lent, 768);
-    expect(is(doilystrand_count(NULL, 0, NULL, 0, NULL, 0, NULL, 0), 1, 0), "nothing at all is not 1");
+    expect(is(doilystrand_count(NULL, 0, NULL, 0, NULL, 0, NULL, 0), 1, 0, 1), "nothing at all is not 1");
 }
 
 /* What Short and a rule of three nodes are shown with: 9 marks, 771 numbers and 18 bytes, and one more of each. */
@@ -134,39 +150,39 @@ static void expect_left(size_t cleared, size_t written) {
     for (size_t i = written; i < 19; i++) expect(shown_output[i] == 99, "show changes output past the run");
 }
 
-static void expect_refused(doilystrand_written w, uint32_t number, size_t cleared, const char *what) {
-    expect(is(w.outcome, number, 0) && w.written == 0, what);
+static void expect_refused(doilystrand_written w, uint32_t number, uint32_t entry, size_t cleared, const char *what) {
+    expect(is(w.outcome, number, 0, entry) && w.written == 0, what);
     expect_left(cleared, 0);
 }
 
 static void runs_are_shown(void) {
     static const uint8_t run[] = {0, 0, 0, 0, 0, 5, 0, 1, 0, 0, 0, 0, 0, 2, 0, 0, 0, 0};
     doilystrand_written w = shown(2, 0, 772, 19);
-    expect(is(w.outcome, 0, 0) && w.written == sizeof run, "no run of Short is shown");
+    expect(is(w.outcome, 0, 0, 0) && w.written == sizeof run, "no run of Short is shown");
     expect(memcmp(shown_output, run, sizeof run) == 0, "another run of Short is shown");
     expect_left(771, sizeof run);
     w = shown(2, 0, 771, 18);
-    expect(is(w.outcome, 0, 0) && w.written == sizeof run, "buffers that are just enough are not");
-    expect_refused(shown(1, 0, 772, 19), 60, 12, "a label is not 60");
-    expect_refused(shown(3, 0, 772, 19), 60, 12, "a node out of range is not 60");
-    expect_refused(shown(2, 3, 772, 19), 60, 12, "a state out of range is not 60");
-    expect_refused(shown(SIZE_MAX, SIZE_MAX, 772, 19), 60, 12, "the greatest numbers are not 60");
-    expect_refused(shown(2, 0, 770, 19), 61, 12, "770 numbers are not 61");
-    expect_refused(shown(2, 0, 772, 17), 62, 771, "17 bytes are not 62");
+    expect(is(w.outcome, 0, 0, 0) && w.written == sizeof run, "buffers that are just enough are not");
+    expect_refused(shown(1, 0, 772, 19), 60, 3, 12, "a label is not 60");
+    expect_refused(shown(3, 0, 772, 19), 60, 3, 12, "a node out of range is not 60");
+    expect_refused(shown(2, 3, 772, 19), 60, 3, 12, "a state out of range is not 60");
+    expect_refused(shown(SIZE_MAX, SIZE_MAX, 772, 19), 60, 3, 12, "the greatest numbers are not 60");
+    expect_refused(shown(2, 0, 770, 19), 61, 5, 12, "770 numbers are not 61");
+    expect_refused(shown(2, 0, 772, 17), 62, 5, 771, "17 bytes are not 62");
     w = doilystrand_show(short_chart, sizeof short_chart, some_rule, sizeof some_rule, shown_marks, 10,
                          shown_scratch, 772, 2, 0, NULL, 0);
-    expect(is(w.outcome, 62, 0) && w.written == 0, "an empty output is not 62");
+    expect(is(w.outcome, 62, 0, 5) && w.written == 0, "an empty output is not 62");
     w = doilystrand_show(NULL, 0, NULL, 0, NULL, 0, NULL, 0, 0, 0, NULL, 0);
-    expect(is(w.outcome, 1, 0) && w.written == 0, "nothing at all is not 1");
+    expect(is(w.outcome, 1, 0, 1) && w.written == 0, "nothing at all is not 1");
 }
 
 static void kinds_are_told(void) {
     doilystrand_kind_answer a = doilystrand_kind_of_rule(rule, sizeof rule);
-    expect(is(a.outcome, 0, 0) && a.kind == DOILYSTRAND_ALL_RUNS, "A-until is not all-runs");
+    expect(is(a.outcome, 0, 0, 0) && a.kind == DOILYSTRAND_ALL_RUNS, "A-until is not all-runs");
     a = doilystrand_kind_of_rule(rule, 30);
-    expect(is(a.outcome, 12, 0) && a.kind == DOILYSTRAND_NEITHER, "a cut rule is not 12");
+    expect(is(a.outcome, 12, 0, 3) && a.kind == DOILYSTRAND_NEITHER, "a cut rule is not 12");
     a = doilystrand_kind_of_rule(NULL, 0);
-    expect(is(a.outcome, 10, 0) && a.kind == DOILYSTRAND_NEITHER, "an empty rule is not 10");
+    expect(is(a.outcome, 10, 0, 3) && a.kind == DOILYSTRAND_NEITHER, "an empty rule is not 10");
 }
 
 /* What texts and rules are turned into: as much as the longest of either takes, and one more. */
@@ -190,34 +206,34 @@ static doilystrand_written write_text(const uint8_t *of, size_t of_size, size_t 
     return turn(doilystrand_write_rule, of, of_size, output_size);
 }
 
-static bool is_refused(doilystrand_written w, uint32_t number, uint32_t place) {
-    return is(w.outcome, number, place) && w.written == 0;
+static bool is_refused(doilystrand_written w, uint32_t number, uint32_t place, uint32_t entry) {
+    return is(w.outcome, number, place, entry) && w.written == 0;
 }
 
 static bool is_written(doilystrand_written w, const void *bytes, size_t size) {
-    return is(w.outcome, 0, 0) && w.written == size && memcmp(turned, bytes, size) == 0;
+    return is(w.outcome, 0, 0, 0) && w.written == size && memcmp(turned, bytes, size) == 0;
 }
 
 static void texts_are_read(void) {
     char deep[DOILYSTRAND_MAX_TEXT + 2] = {0};
     expect(is_written(read_text("A(true U<=13 L2)", 32), rule, sizeof rule), "a text is another rule");
     expect(is_written(read_text("A(true U<=13 L2)", 31), rule, sizeof rule), "31 bytes are too few for three nodes");
-    expect(is_refused(read_text("A(true U<=13 L2)", 30), 66, 0), "30 bytes are not 66");
+    expect(is_refused(read_text("A(true U<=13 L2)", 30), 66, 0, 5), "30 bytes are not 66");
     expect(is_written(read_text("E(true U<=5 L2)", 31), some_rule, sizeof some_rule), "E is another rule");
-    expect(is_refused(read_text("A(true U<=65536 L2)", 31), 64, 14), "65,536 is not 64 at its last digit");
+    expect(is_refused(read_text("A(true U<=65536 L2)", 31), 64, 14, 3), "65,536 is not 64 at its last digit");
     expect(read_text("A(true U<=65535 L2)", 31).written == 31, "65,535 is refused");
-    expect(is_refused(read_text("L16", 0), 64, 2), "L16 is not 64 at 2");
-    expect(is_refused(read_text("L15", 0), 66, 0), "L15 without an output is not 66");
-    expect(is_refused(read_text("true\n", 31), 64, 4), "a newline is not 64");
-    expect(is_refused(read_text("", 31), 64, 0), "an empty text is not 64");
+    expect(is_refused(read_text("L16", 0), 64, 2, 3), "L16 is not 64 at 2");
+    expect(is_refused(read_text("L15", 0), 66, 0, 5), "L15 without an output is not 66");
+    expect(is_refused(read_text("true\n", 31), 64, 4, 3), "a newline is not 64");
+    expect(is_refused(read_text("", 31), 64, 0, 3), "an empty text is not 64");
     memset(deep, '!', DOILYSTRAND_MAX_TEXT);
-    expect(is_refused(read_text(deep, 31), 64, DOILYSTRAND_MAX_TEXT), "the longest text that stops is not 64");
+    expect(is_refused(read_text(deep, 31), 64, DOILYSTRAND_MAX_TEXT, 3), "the longest text that stops is not 64");
     deep[DOILYSTRAND_MAX_TEXT] = '!';
-    expect(is_refused(read_text(deep, 31), 65, 0), "a longer text is not 65");
+    expect(is_refused(read_text(deep, 31), 65, 0, 3), "a longer text is not 65");
     memcpy(deep + 64, "true", 5);
-    expect(is_refused(read_text(deep, 0), 65, 0), "65 nodes are not 65");
+    expect(is_refused(read_text(deep, 0), 65, 0, 3), "65 nodes are not 65");
     expect(read_text(deep + 1, sizeof turned).written == DOILYSTRAND_MAX_RULE, "64 nodes are refused");
-    expect(is_refused(doilystrand_read_rule(NULL, 0, NULL, 0), 64, 0), "nothing at all is not 64");
+    expect(is_refused(doilystrand_read_rule(NULL, 0, NULL, 0), 64, 0, 3), "nothing at all is not 64");
 }
 
 static void rules_are_written(void) {
@@ -225,10 +241,10 @@ static void rules_are_written(void) {
     size_t size = sizeof text - 1;
     expect(is_written(write_text(rule, sizeof rule, size + 1), text, size), "a rule has another text");
     expect(is_written(write_text(rule, sizeof rule, size), text, size), "16 bytes are too few for the text");
-    expect(is_refused(write_text(rule, sizeof rule, size - 1), 66, 0), "15 bytes are not 66");
-    expect(is_refused(write_text(rule, 30, size), 12, 0), "a cut rule is not 12");
-    expect(is_refused(doilystrand_write_rule(rule, sizeof rule, NULL, 0), 66, 0), "an empty output is not 66");
-    expect(is_refused(doilystrand_write_rule(NULL, 0, NULL, 0), 10, 0), "nothing at all is not 10");
+    expect(is_refused(write_text(rule, sizeof rule, size - 1), 66, 0, 5), "15 bytes are not 66");
+    expect(is_refused(write_text(rule, 30, size), 12, 0, 3), "a cut rule is not 12");
+    expect(is_refused(doilystrand_write_rule(rule, sizeof rule, NULL, 0), 66, 0, 5), "an empty output is not 66");
+    expect(is_refused(doilystrand_write_rule(NULL, 0, NULL, 0), 10, 0, 3), "nothing at all is not 10");
 }
 
 /* 31 untils, each in the next, under a not: read into the largest rule, and written back. */
@@ -241,20 +257,49 @@ static void the_longest_text_comes_back(void) {
     for (int i = 0; i < 31; i++) at = (char *)memcpy(at, " U<=65535 true)", 15) + 15;
     *at = 0;
     expect(at == text + DOILYSTRAND_MAX_RULE_TEXT, "the longest text's size");
-    expect(is_refused(read_text(text, sizeof longest - 1), 66, 0), "the largest rule manages with less output");
+    expect(is_refused(read_text(text, sizeof longest - 1), 66, 0, 5), "the largest rule manages with less output");
     expect(read_text(text, sizeof longest).written == sizeof longest, "the longest text is not the largest rule");
     memcpy(longest, turned, sizeof longest);
     size_t size = DOILYSTRAND_MAX_RULE_TEXT;
     expect(is_written(write_text(longest, sizeof longest, size), text, size), "another text comes back");
-    expect(is_refused(write_text(longest, sizeof longest, size - 1), 66, 0), "the longest text manages with less");
+    expect(is_refused(write_text(longest, sizeof longest, size - 1), 66, 0, 5), "the longest text manages with less");
 }
 
 static void maps_are_checked(void) {
+    static const uint8_t far[] = {1, 0, 0, 0, 13, 0, 3, 0, 0, 0, 3, 0, 2};
+    static const uint8_t other[] = {1, 0, 0, 0, 13, 0, 3, 0, 0, 0, 0, 0, 2};
+    uint8_t stuck[sizeof short_chart], slow[sizeof short_chart];
     size_t size = sizeof short_chart;
-    expect(is(doilystrand_map_check(short_chart, size, short_chart, size, identity, sizeof identity), 0, 0),
+    make_stuck(stuck);
+    memcpy(slow, short_chart, size);
+    slow[22] = 11; /* 0 to 1 in 5 to 11 minutes */
+    expect(is(doilystrand_map_check(short_chart, size, short_chart, size, identity, sizeof identity), 0, 0, 0),
            "Short is not one under itself");
-    expect(is(doilystrand_map_check(short_chart, size, short_chart, size, NULL, 0), 20, 0), "an empty map is not 20");
-    expect(is(doilystrand_map_check(short_chart, size, NULL, 0, NULL, 0), 41, 0), "an empty overview is not 41");
+    expect(is(doilystrand_map_check(short_chart, size, short_chart, size, NULL, 0), 20, 0, 4),
+           "an empty map is not 20");
+    expect(is(doilystrand_map_check(NULL, 0, NULL, 0, NULL, 0), 1, 0, 1), "an empty detail is not 1");
+    expect(is(doilystrand_map_check(short_chart, size, NULL, 0, NULL, 0), 1, 0, 2), "an empty overview is not its 1");
+    expect(is(doilystrand_map_check(short_chart, size, stuck, size, NULL, 0), 19, 1, 2),
+           "an overview where no time can pass is not its 19");
+    expect(is(doilystrand_map_check(short_chart, size, short_chart, size, far, sizeof far), 21, 1, 4),
+           "entry 3 is not 21");
+    expect(is(doilystrand_map_check(short_chart, size, short_chart, size, other, sizeof other), 22, 1, 4),
+           "other labels are not 22");
+    expect(is(doilystrand_map_check(slow, size, short_chart, size, identity, sizeof identity), 23, 0, 1),
+           "11 minutes within 10 are not 23");
+}
+
+static bool says(uint32_t number, uint32_t place, uint32_t entry, const char *sentence, const char *paper,
+                 const char *counts) {
+    doilystrand_words w = doilystrand_words_of((doilystrand_outcome){number, place, entry});
+    return strcmp(w.sentence, sentence) == 0 && strcmp(w.paper, paper) == 0 && strcmp(w.counts, counts) == 0;
+}
+
+static void words_are_told(void) {
+    expect(says(9, 2, 1, "state without an outgoing arrow", "chart or detail", "state"), "9 has other words");
+    expect(says(1, 0, 2, "chart under 9 bytes", "overview", ""), "1 of the overview has other words");
+    expect(says(0, 0, 0, "", "none", ""), "success has words");
+    expect(says(67, 0, 6, "", "", ""), "a number that no paper has has words");
 }
 
 static void rows_are_found(void) {
@@ -340,29 +385,29 @@ static doilystrand_outcome count_the_largest(size_t marks_size, size_t scratch_s
 
 static void the_largest_is_counted(void) {
     size_t marks = 3 * 256, scratch = DOILYSTRAND_MAX_COUNT_SCRATCH;
-    expect(is(count_the_largest(marks, scratch), 0, 0), "count refuses the largest chart");
-    expect(is(count_the_largest(marks - 1, scratch), 17, 0), "the largest count manages with fewer marks");
-    expect(is(count_the_largest(marks, scratch - 1), 18, 0), "the largest count manages with less scratch");
+    expect(is(count_the_largest(marks, scratch), 0, 0, 0), "count refuses the largest chart");
+    expect(is(count_the_largest(marks - 1, scratch), 17, 0, 5), "the largest count manages with fewer marks");
+    expect(is(count_the_largest(marks, scratch - 1), 18, 0, 5), "the largest count manages with less scratch");
     expect(is(doilystrand_count(largest_chart, sizeof largest_chart, long_rule, sizeof long_rule, NULL, 0, NULL, 0),
-              63, 2), "a bound of 256 is not 63");
+              63, 2, 3), "a bound of 256 is not 63");
 }
 
 static void the_longest_is_shown(void) {
     size_t scratch = DOILYSTRAND_MAX_RUN_SCRATCH, output = DOILYSTRAND_MAX_RUN;
     doilystrand_written w = show_the_longest(scratch, output);
-    expect(is(w.outcome, 0, 0) && w.written == output, "the longest run is not shown");
-    expect(is(show_the_longest(scratch - 1, output).outcome, 61, 0), "the longest run manages with less scratch");
-    expect(is(show_the_longest(scratch, output - 1).outcome, 62, 0), "the longest run manages with less output");
+    expect(is(w.outcome, 0, 0, 0) && w.written == output, "the longest run is not shown");
+    expect(is(show_the_longest(scratch - 1, output).outcome, 61, 0, 5), "the longest run manages with less scratch");
+    expect(is(show_the_longest(scratch, output - 1).outcome, 62, 0, 5), "the longest run manages with less output");
 }
 
 static void the_largest_is_taken(void) {
     size_t size = sizeof largest_chart, marks = DOILYSTRAND_MAX_MARKS, scratch = DOILYSTRAND_MAX_SCRATCH;
     make_the_largest();
-    expect(is(check_the_largest(marks, scratch), 0, 0), "check refuses the largest");
-    expect(is(check_the_largest(marks - 1, scratch), 17, 0), "the largest manages with fewer marks");
-    expect(is(check_the_largest(marks, scratch - 1), 18, 0), "the largest manages with less scratch");
-    expect(is(doilystrand_map_check(largest_chart, size, largest_chart, size, largest_map, sizeof largest_map), 0, 0),
-           "map check refuses the largest");
+    expect(is(check_the_largest(marks, scratch), 0, 0, 0), "check refuses the largest");
+    expect(is(check_the_largest(marks - 1, scratch), 17, 0, 5), "the largest manages with fewer marks");
+    expect(is(check_the_largest(marks, scratch - 1), 18, 0, 5), "the largest manages with less scratch");
+    expect(is(doilystrand_map_check(largest_chart, size, largest_chart, size, largest_map, sizeof largest_map),
+              0, 0, 0), "map check refuses the largest");
 }
 
 int main(void) {
@@ -375,6 +420,7 @@ int main(void) {
     rules_are_written();
     the_longest_text_comes_back();
     maps_are_checked();
+    words_are_told();
     rows_are_found();
     arrows_are_handed_out();
     the_largest_is_taken();

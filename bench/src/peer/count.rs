@@ -18,7 +18,7 @@ pub fn count(chart: &[u8], rule: &[u8], marks: &mut [u8], scratch: &mut [u32]) -
     let accepted = accept(chart, rule, marks, scratch, |chart, rule, marks, scratch| {
         Counter { labels: &chart.labels, rows: Minutes::new(chart, scratch) }.settle(rule, marks);
     });
-    accepted.err().unwrap_or(refusal(0, 0))
+    accepted.err().unwrap_or(Outcome::ACCEPTED)
 }
 
 /// The same call: the plain peer.
@@ -27,7 +27,7 @@ pub fn plain_count(bytes: &[u8], rule: &[u8], marks: &mut [u8], scratch: &mut [u
         let n = chart.labels.len();
         Counter { labels: &chart.labels, rows: Rounds::new(n, listed(n, bytes), scratch) }.settle(rule, marks);
     });
-    accepted.err().unwrap_or(refusal(0, 0))
+    accepted.err().unwrap_or(Outcome::ACCEPTED)
 }
 
 fn accept(

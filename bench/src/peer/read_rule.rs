@@ -11,7 +11,7 @@ const NODES: usize = 64;
 /// Writes the rule that the text stands for.
 pub fn read_rule(text: &[u8], output: &mut [u8]) -> Written {
     match nodes_of(text).and_then(|nodes| put_rule(&nodes, output)) {
-        Ok(written) => Written { outcome: refusal(0, 0), written },
+        Ok(written) => Written { outcome: Outcome::ACCEPTED, written },
         Err(refused) => Written { outcome: refused, written: 0 },
     }
 }

@@ -26,7 +26,7 @@ pub fn show(
     output: &mut [u8],
 ) -> Written {
     match write_run(chart, rule, marks, scratch, node, state, output) {
-        Ok(written) => Written { outcome: refusal(0, 0), written },
+        Ok(written) => Written { outcome: Outcome::ACCEPTED, written },
         Err(refused) => Written { outcome: refused, written: 0 },
     }
 }

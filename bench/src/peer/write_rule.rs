@@ -10,7 +10,7 @@ const LONGEST: usize = 532;
 /// Writes the text of the rule.
 pub fn write_rule(rule: &[u8], output: &mut [u8]) -> Written {
     match text_of(rule).and_then(|text| put_text(&text, output)) {
-        Ok(written) => Written { outcome: refusal(0, 0), written },
+        Ok(written) => Written { outcome: Outcome::ACCEPTED, written },
         Err(refused) => Written { outcome: refused, written: 0 },
     }
 }

@@ -22,10 +22,16 @@ pub fn arrows_of(chart: &[u8]) -> Vec<Arrow> {
     arrows.map(|a| arrow(word(a, 0), word(a, 2), word(a, 4), word(a, 6))).collect()
 }
 
+/// Number, place and entry.
+pub type Told = (u32, u32, u32);
+
+pub fn told(Outcome { number, place, entry }: Outcome) -> Told {
+    (number, place, entry)
+}
+
 /// Outcome of the peer with the largest tables.
-pub fn outcome(chart: &[u8], rule: &[u8]) -> (u32, u32) {
-    let outcome = call(chart, rule, 64 * 256, 4 * 256).outcome;
-    (outcome.number, outcome.place)
+pub fn outcome(chart: &[u8], rule: &[u8]) -> Told {
+    told(call(chart, rule, 64 * 256, 4 * 256).outcome)
 }
 
 /// What the lent tables hold before a call.
@@ -72,7 +78,7 @@ pub fn show(chart: &[u8], rule: &[u8], ask: Ask) -> ShowAnswer {
 pub fn marks(labels: &[u16], arrows: &[Arrow], nodes: &[Node]) -> Vec<u8> {
     let (n, k) = (labels.len(), nodes.len());
     let answer = call(&bytes::chart(labels, arrows), &bytes::rule(nodes), k * n + 3, 4 * n + 3);
-    assert_eq!(answer.outcome, Outcome { number: 0, place: 0 });
+    assert_eq!(answer.outcome, Outcome::ACCEPTED);
     assert_eq!(answer.marks[k * n..], [LENT_MARK; 3]);
     assert!(answer.scratch[..4 * n].iter().all(|&number| number == 0));
     assert_eq!(answer.scratch[4 * n..], [LENT_NUMBER; 3]);

@@ -1,7 +1,7 @@
 //! Counting the minutes, quick or plain, gives the marks of check, refuses as it should, and leaves the tables as it
 //! should.
 
-use crate::common::{arrow, call, node, outcome, word, Answer, LENT_MARK, LENT_NUMBER};
+use crate::common::{arrow, call, node, outcome, told, word, Answer, Told, LENT_MARK, LENT_NUMBER};
 use bench::bytes::{self, Node};
 use bench::peer::{self, Outcome};
 use bench::{counted, drawn};
@@ -23,7 +23,7 @@ fn count(chart: &[u8], rule: &[u8], marks: usize, scratch: usize) -> Answer {
 fn judge(chart: &[u8], rule: &[u8], what: &str) {
     let (n, k) = (usize::from(word(chart, 5)), usize::from(word(rule, 5)));
     let counted = count(chart, rule, k * n + 3, 256 * n + 3);
-    assert_eq!(counted.outcome, Outcome { number: 0, place: 0 }, "{what}");
+    assert_eq!(counted.outcome, Outcome::ACCEPTED, "{what}");
     assert!(counted.marks == call(chart, rule, k * n + 3, 4 * n).marks, "{what}");
     let (cleared, kept) = counted.scratch.split_at(256 * n);
     assert!(cleared.iter().all(|&number| number == 0), "{what}");
@@ -42,7 +42,7 @@ fn hurried_charts_have_the_marks_of_check() {
     let mut accepted = 0;
     for seed in 0..1_000 {
         let (chart, rule) = (drawn::hurried(seed), counted::near(drawn::rule(seed)));
-        if outcome(&chart, &rule) == (0, 0) {
+        if outcome(&chart, &rule) == (0, 0, 0) {
             judge(&chart, &rule, &format!("seed {seed}"));
             accepted += 1;
         }
@@ -76,14 +76,14 @@ fn short() -> Vec<u8> {
 
 const ALWAYS: Node = Node { operation: 0, kind: 0, a: 0, b: 0, c: 0 };
 
-/// Number and place, after what the call leaves is looked at.
-fn refused(chart: &[u8], rule: &[u8], marks: usize, scratch: usize) -> (u32, u32) {
+/// What is told, after what the call leaves is looked at.
+fn refused(chart: &[u8], rule: &[u8], marks: usize, scratch: usize) -> Told {
     let answer = count(chart, rule, marks, scratch);
     assert!(answer.marks.iter().all(|&mark| mark == LENT_MARK));
     let (cleared, kept) = answer.scratch.split_at(if answer.outcome.number == 19 { scratch - 1 } else { 0 });
     assert!(cleared.iter().all(|&number| number == 0));
     assert!(kept.iter().all(|&number| number == LENT_NUMBER));
-    (answer.outcome.number, answer.outcome.place)
+    told(answer.outcome)
 }
 
 #[test]
@@ -91,23 +91,23 @@ fn far_bounds() {
     let until = |kind, a, b, c| node(6, kind, a, b, c);
     let far =
         bytes::rule(&[ALWAYS, ALWAYS, until(1, 0, 1, 255), ALWAYS, until(2, 2, 3, 256), ALWAYS, until(1, 4, 5, 999)]);
-    assert_eq!(refused(&short(), &far, 0, 0), (63, 4));
-    assert_eq!(refused(&[], &far, 0, 0), (1, 0));
+    assert_eq!(refused(&short(), &far, 0, 0), (63, 4, 3));
+    assert_eq!(refused(&[], &far, 0, 0), (1, 0, 1));
     // Before 63 come the form of every node and their uses, after it the tables.
-    assert_eq!(refused(&short(), &bytes::rule(&[ALWAYS, ALWAYS, until(1, 0, 0, 256)]), 0, 0), (16, 0));
-    assert_eq!(refused(&short(), &bytes::rule(&[ALWAYS, ALWAYS, until(1, 0, 1, 256)]), 0, 0), (63, 2));
-    assert_eq!(refused(&short(), &bytes::rule(&[ALWAYS, ALWAYS, until(1, 0, 1, 255)]), 8, 0), (17, 0));
+    assert_eq!(refused(&short(), &bytes::rule(&[ALWAYS, ALWAYS, until(1, 0, 0, 256)]), 0, 0), (16, 0, 3));
+    assert_eq!(refused(&short(), &bytes::rule(&[ALWAYS, ALWAYS, until(1, 0, 1, 256)]), 0, 0), (63, 2, 3));
+    assert_eq!(refused(&short(), &bytes::rule(&[ALWAYS, ALWAYS, until(1, 0, 1, 255)]), 8, 0), (17, 0, 5));
 }
 
 #[test]
 fn tables_and_loops() {
     let rule = bytes::rule(&[ALWAYS]);
-    assert_eq!(refused(&short(), &rule, 2, 768), (17, 0));
+    assert_eq!(refused(&short(), &rule, 2, 768), (17, 0, 5));
     // As many rows for a rule without untils.
-    assert_eq!(refused(&short(), &rule, 3, 767), (18, 0));
+    assert_eq!(refused(&short(), &rule, 3, 767), (18, 0, 5));
     let still = bytes::chart(&[0], &[arrow(0, 0, 0, 0)]);
-    assert_eq!(refused(&still, &rule, 1, 255), (18, 0));
-    assert_eq!(refused(&still, &rule, 1, 257), (19, 0));
+    assert_eq!(refused(&still, &rule, 1, 255), (18, 0, 5));
+    assert_eq!(refused(&still, &rule, 1, 257), (19, 0, 1));
 }
 
 /// The example of the paper's readings.
@@ -115,7 +115,7 @@ fn tables_and_loops() {
 fn marks_within_13() {
     let rule = bytes::rule(&[ALWAYS, node(1, 0, 2, 0, 0), node(6, 1, 0, 1, 13)]);
     let answer = count(&short(), &rule, 10, 769);
-    assert_eq!(answer.outcome, Outcome { number: 0, place: 0 });
+    assert_eq!(answer.outcome, Outcome::ACCEPTED);
     assert_eq!(answer.marks, [1, 1, 1, 0, 0, 1, 0, 1, 1, LENT_MARK]);
     assert_eq!(answer.scratch.iter().position(|&number| number != 0), Some(768));
 }

@@ -12,7 +12,7 @@ fn every_input_is_accepted() {
             assert_eq!(usize::from(word(&chart, 7)), 8 * n);
             assert!(chart_name == "dense" || usize::from(word(&chart, 5)) == n);
             for rule in rules::NAMES {
-                assert_eq!(outcome(&chart, &rules::rule(rule).unwrap()), (0, 0), "{chart_name} {n} {rule}");
+                assert_eq!(outcome(&chart, &rules::rule(rule).unwrap()), (0, 0, 0), "{chart_name} {n} {rule}");
             }
         }
     }
@@ -44,7 +44,7 @@ fn number(name: &str) -> u16 {
 fn small_inputs_have_the_size_of_their_names() {
     for (chart_name, rule_name) in small::ROWS {
         let (chart, rule) = (small::chart(chart_name).unwrap(), small::rule(rule_name).unwrap());
-        assert_eq!(outcome(&chart, &rule), (0, 0), "{chart_name} {rule_name}");
+        assert_eq!(outcome(&chart, &rule), (0, 0, 0), "{chart_name} {rule_name}");
         let (n, m) = (word(&chart, 5), word(&chart, 7));
         assert_eq!((n, word(&rule, 5)), (number(chart_name), number(rule_name)));
         assert!(3 * n <= 2 * m && m <= 3 * n, "{chart_name} has {m} arrows");

@@ -172,7 +172,7 @@ fn random_charts() {
         if let Some(place) = timelock(n, &arrows) {
             let (mut table, mut scratch) = (vec![9; k * n], vec![9; 4 * n]);
             let outcome = peer::check(&bytes::chart(&labels, &arrows), &bytes::rule(&nodes), &mut table, &mut scratch);
-            assert_eq!((outcome.number, outcome.place as usize), (19, place));
+            assert_eq!((outcome.number, outcome.place as usize, outcome.entry), (19, place, 1));
             refused += 1;
             continue;
         }

@@ -1,6 +1,6 @@
 //! Refusals 60 to 62 of show, those of check before them, and what each leaves in the tables.
 
-use crate::common::{arrow, node, show, Ask, LENT_MARK, LENT_NUMBER};
+use crate::common::{arrow, node, show, told, Ask, Told, LENT_MARK, LENT_NUMBER};
 use bench::bytes::{self, Node};
 
 fn chart() -> Vec<u8> {
@@ -15,23 +15,22 @@ fn rule(operation: u8, kind: u8, c: u16) -> Vec<u8> {
 /// The last node at state 0, with all that an accepted call asks for.
 const WHOLE: Ask = Ask { node: 2, state: 0, marks: 9, scratch: 771, output: 18 };
 
-/// The number, after what the call leaves is looked at: so many numbers are 0, and marks are written or not.
-fn number(chart: &[u8], rule: &[u8], ask: Ask, cleared: usize, marked: bool) -> u32 {
+/// What is told, after what the call leaves is looked at: so many numbers are 0, and marks are written or not.
+fn answer(chart: &[u8], rule: &[u8], ask: Ask, cleared: usize, marked: bool) -> Told {
     let shown = show(chart, rule, ask);
-    assert_eq!(shown.answer.outcome.place, 0);
     assert!(shown.scratch[..cleared].iter().all(|&number| number == 0));
     assert!(shown.scratch[cleared..].iter().all(|&number| number == LENT_NUMBER));
     assert!(shown.marks.iter().all(|&mark| (mark == LENT_MARK) != marked));
     assert!(shown.output[shown.answer.written..].iter().all(|&byte| byte == LENT_MARK));
     assert_eq!(shown.answer.written, if shown.answer.outcome.number == 0 { 18 } else { 0 });
-    shown.answer.outcome.number
+    told(shown.answer.outcome)
 }
 
 #[test]
 fn no_such_mark() {
-    let refused = |rule: &[u8], ask| assert_eq!(number(&chart(), rule, ask, 12, true), 60);
+    let refused = |rule: &[u8], ask| assert_eq!(answer(&chart(), rule, ask, 12, true), (60, 0, 3));
     let within = rule(5, 1, 5);
-    assert_eq!(number(&chart(), &within, WHOLE, 771, true), 0);
+    assert_eq!(answer(&chart(), &within, WHOLE, 771, true), (0, 0, 0));
     refused(&within, Ask { node: 3, ..WHOLE });
     refused(&within, Ask { node: usize::MAX, ..WHOLE });
     refused(&within, Ask { state: 3, ..WHOLE });
@@ -50,23 +49,23 @@ fn no_such_mark() {
 #[test]
 fn short_buffers() {
     let rule = rule(5, 1, 5);
-    let refused = |ask, cleared| number(&chart(), &rule, ask, cleared, true);
-    assert_eq!(refused(Ask { scratch: 770, output: 0, ..WHOLE }, 12), 61);
-    assert_eq!(refused(Ask { scratch: 12, ..WHOLE }, 12), 61);
-    assert_eq!(refused(Ask { output: 17, ..WHOLE }, 771), 62);
-    assert_eq!(refused(Ask { output: 0, scratch: 773, ..WHOLE }, 771), 62);
-    assert_eq!(refused(Ask { output: 2_000, ..WHOLE }, 771), 0);
+    let refused = |ask, cleared| answer(&chart(), &rule, ask, cleared, true);
+    assert_eq!(refused(Ask { scratch: 770, output: 0, ..WHOLE }, 12), (61, 0, 5));
+    assert_eq!(refused(Ask { scratch: 12, ..WHOLE }, 12), (61, 0, 5));
+    assert_eq!(refused(Ask { output: 17, ..WHOLE }, 771), (62, 0, 5));
+    assert_eq!(refused(Ask { output: 0, scratch: 773, ..WHOLE }, 771), (62, 0, 5));
+    assert_eq!(refused(Ask { output: 2_000, ..WHOLE }, 771), (0, 0, 0));
 }
 
 #[test]
 fn check_comes_first() {
     let far = Ask { node: 9, state: 9, output: 0, ..WHOLE };
     let rule = rule(5, 1, 5);
-    assert_eq!(number(&[], &rule, far, 0, false), 1);
-    assert_eq!(number(&chart(), &[], far, 0, false), 10);
-    assert_eq!(number(&chart(), &rule, Ask { marks: 8, scratch: 11, ..far }, 0, false), 17);
-    assert_eq!(number(&chart(), &rule, Ask { scratch: 11, ..far }, 0, false), 18);
+    assert_eq!(answer(&[], &rule, far, 0, false), (1, 0, 1));
+    assert_eq!(answer(&chart(), &[], far, 0, false), (10, 0, 3));
+    assert_eq!(answer(&chart(), &rule, Ask { marks: 8, scratch: 11, ..far }, 0, false), (17, 0, 5));
+    assert_eq!(answer(&chart(), &rule, Ask { scratch: 11, ..far }, 0, false), (18, 0, 5));
     let nodes: [Node; 1] = [node(0, 0, 0, 0, 0)];
     let still = bytes::chart(&[0], &[arrow(0, 0, 0, 0)]);
-    assert_eq!(number(&still, &bytes::rule(&nodes), far, 4, false), 19);
+    assert_eq!(answer(&still, &bytes::rule(&nodes), far, 4, false), (19, 0, 1));
 }

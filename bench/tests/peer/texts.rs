@@ -1,26 +1,26 @@
 //! Rules typed as text and written back: every refusal with a neighbour that passes, and what is left in the output.
 
-use crate::common::{node, on_a_large_stack, LENT_MARK};
+use crate::common::{node, on_a_large_stack, told, Told, LENT_MARK};
 use bench::bytes::{self, Node};
 use bench::peer::{self, Written};
 
-/// What is written into so much output, or number and place; the rest is as lent.
-fn call(call: fn(&[u8], &mut [u8]) -> Written, given: impl AsRef<[u8]>, room: usize) -> Result<Vec<u8>, (u32, u32)> {
+/// What is written into so much output, or the refusal; the rest is as lent.
+fn call(call: fn(&[u8], &mut [u8]) -> Written, given: impl AsRef<[u8]>, room: usize) -> Result<Vec<u8>, Told> {
     let mut output = vec![LENT_MARK; room];
     let Written { outcome, written } = call(given.as_ref(), &mut output);
     assert!(output[written..].iter().all(|&byte| byte == LENT_MARK));
     assert!(outcome.number == 0 || written == 0);
-    if outcome.number > 0 {
-        return Err((outcome.number, outcome.place));
+    match told(outcome) {
+        (0, 0, 0) => Ok(output[..written].to_vec()),
+        refused => Err(refused),
     }
-    Ok(output[..written].to_vec())
 }
 
-fn read(text: impl AsRef<[u8]>) -> Result<Vec<u8>, (u32, u32)> {
+fn read(text: impl AsRef<[u8]>) -> Result<Vec<u8>, Told> {
     call(peer::read_rule, text, 600)
 }
 
-fn write(nodes: &[Node]) -> Result<String, (u32, u32)> {
+fn write(nodes: &[Node]) -> Result<String, Told> {
     let text = call(peer::write_rule, bytes::rule(nodes), 600)?;
     Ok(String::from_utf8(text).expect("ASCII"))
 }
@@ -83,9 +83,9 @@ fn no_formula_could_go_on() {
         ("A(true U<=100000 L2)", 15),
         ("A(true U<=14 L2", 15),
     ] {
-        assert_eq!(read(text), Err((64, place)), "{text}");
+        assert_eq!(read(text), Err((64, place, 3)), "{text}");
     }
-    assert_eq!(read([b'L', 0xB1]), Err((64, 1)));
+    assert_eq!(read([b'L', 0xB1]), Err((64, 1, 3)));
     assert!(read("A(true U<=65535 L2)").is_ok() && read("L15").is_ok());
 }
 
@@ -96,18 +96,18 @@ fn nots(count: usize, rest: &str) -> String {
 #[test]
 fn too_much() {
     assert_eq!(read(nots(63, "true")).map(|rule| rule.len()), Ok(519));
-    assert_eq!(read(nots(64, "true")), Err((65, 0)));
-    assert_eq!(read(nots(70, "x")), Err((64, 70)));
-    assert_eq!([read("?".repeat(4_096)), read("?".repeat(4_097))], [Err((64, 0)), Err((65, 0))]);
+    assert_eq!(read(nots(64, "true")), Err((65, 0, 3)));
+    assert_eq!(read(nots(70, "x")), Err((64, 70, 3)));
+    assert_eq!([read("?".repeat(4_096)), read("?".repeat(4_097))], [Err((64, 0, 3)), Err((65, 0, 3))]);
 }
 
 #[test]
 fn as_deep_as_can_be() {
     on_a_large_stack(|| {
-        assert_eq!([read(nots(4_096, "")), read(nots(4_097, ""))], [Err((64, 4_096)), Err((65, 0))]);
-        assert_eq!(read("(".repeat(4_096)), Err((64, 4_096)));
-        assert_eq!(read("A(".repeat(2_048)), Err((64, 4_096)));
-        assert_eq!(read(nots(4_092, "true")), Err((65, 0)));
+        assert_eq!([read(nots(4_096, "")), read(nots(4_097, ""))], [Err((64, 4_096, 3)), Err((65, 0, 3))]);
+        assert_eq!(read("(".repeat(4_096)), Err((64, 4_096, 3)));
+        assert_eq!(read("A(".repeat(2_048)), Err((64, 4_096, 3)));
+        assert_eq!(read(nots(4_092, "true")), Err((65, 0, 3)));
     });
 }
 
@@ -116,21 +116,21 @@ fn output_short() {
     for (text, wanted) in [("true", 15), ("A(true U<=14 L2)", 31)] {
         let room = |room| call(peer::read_rule, text, room).map(|rule| rule.len());
         assert_eq!([room(wanted), room(wanted + 1)], [Ok(wanted); 2]);
-        assert_eq!([room(wanted - 1), room(0)], [Err((66, 0)); 2]);
+        assert_eq!([room(wanted - 1), room(0)], [Err((66, 0, 5)); 2]);
         let rule = read(text).unwrap();
         let room = |room| call(peer::write_rule, &rule, room).map(|text| text.len());
         assert_eq!([room(text.len()), room(text.len() + 1)], [Ok(text.len()); 2]);
-        assert_eq!([room(text.len() - 1), room(0)], [Err((66, 0)); 2]);
+        assert_eq!([room(text.len() - 1), room(0)], [Err((66, 0, 5)); 2]);
     }
-    assert_eq!(call(peer::read_rule, nots(64, "true"), 0), Err((65, 0)));
-    assert_eq!(call(peer::read_rule, "true ", 0), Err((64, 4)));
+    assert_eq!(call(peer::read_rule, nots(64, "true"), 0), Err((65, 0, 3)));
+    assert_eq!(call(peer::read_rule, "true ", 0), Err((64, 4, 3)));
 }
 
 #[test]
 fn refused_rules() {
     let room = |rule: &[u8]| [0, 600].map(|room| call(peer::write_rule, rule, room));
-    assert_eq!(room(&[]), [Err((10, 0)), Err((10, 0))]);
-    assert_eq!(room(&bytes::rule(&[yes(), label(16)])), [Err((14, 1)), Err((14, 1))]);
-    assert_eq!(room(&bytes::rule(&[not(0)])), [Err((15, 0)), Err((15, 0))]);
-    assert_eq!(room(&bytes::rule(&[yes(), yes()])), [Err((16, 0)), Err((16, 0))]);
+    assert_eq!(room(&[]), [Err((10, 0, 3)), Err((10, 0, 3))]);
+    assert_eq!(room(&bytes::rule(&[yes(), label(16)])), [Err((14, 1, 3)), Err((14, 1, 3))]);
+    assert_eq!(room(&bytes::rule(&[not(0)])), [Err((15, 0, 3)), Err((15, 0, 3))]);
+    assert_eq!(room(&bytes::rule(&[yes(), yes()])), [Err((16, 0, 3)), Err((16, 0, 3))]);
 }

@@ -20,12 +20,12 @@ fn named_texts() {
     for name in texts::READS {
         let text = texts::read(name).expect(name);
         let read = peer::read_rule(&text.bytes, &mut [0; texts::RULE]).outcome;
-        assert_eq!((text.bytes.len(), (read.number, read.place)), (bytes(name), text.answer), "{name}");
+        assert_eq!((text.bytes.len(), read), (bytes(name), text.answer), "{name}");
     }
     for name in texts::WRITES {
         let rule = texts::write(name).expect(name);
         let written = peer::write_rule(&rule.bytes, &mut [0; texts::RULE_TEXT]);
-        assert_eq!((written.outcome.number, written.written), (0, bytes(name)), "{name}");
+        assert_eq!((written.outcome, written.written), (rule.answer, bytes(name)), "{name}");
     }
 }
 

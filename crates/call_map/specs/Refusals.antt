@@ -1,11 +1,12 @@
 -- The refusals of map check: the rows of 01's table, in its order and its words, of a detail chart d, an overview o
--- and a map p.
+-- and a map p. What the overview's rows carry is of 02, paper 6.
 use mathlib.Core.Bool.{Bool, not}
 use mathlib.Core.List.{List, [], _∷_, _++_}
 use Prim.Native.Nat.{ℕ}
 use lib.Dec.{eqb}
 use Rattle.outcome.specs.declared.Outcome.{Outcome}
-use Rattle.outcome.specs.Refusal.{Row, refuse, lowest, first, shifted}
+use Rattle.outcome.specs.Entry.{overview}
+use Rattle.outcome.specs.Refusal.{Row, refuse, lowest, first, carrying}
 use Rattle.chart.specs.Bytes.{stateCount, arrowCount, labelWord}
 use Rattle.loops.specs.Refusal.{acceptedTable}
 use Rattle.map.specs.Bytes.{entry}
@@ -31,9 +32,9 @@ mapTable d o p =
     refuse 23 (lowest (λ i. not (coveredAt d o p i)) m) ∷
     []
 
--- "the overview (the same plus 40: 41 to 49, 59; an empty overview is 41)"
+-- "Overview refusals then use the chart numbers 1 to 9 and 19": a chart's own rows, with the entry "2 overview"
 abbrev pub overviewTable : List ℕ → List Row
-overviewTable o = shifted 40 (acceptedTable o)
+overviewTable o = carrying overview (acceptedTable o)
 
 -- "Map check tests the detail chart (1 to 9, then 19), then the overview .., then 20 to 23."
 unfoldable pub mapCheckTable : List ℕ → List ℕ → List ℕ → List Row

@@ -117,18 +117,18 @@ fn map_refusal(detail: &[u8], overview: &[u8], map: &[u8]) -> Outcome
     mapped_refusal(detail, lower, overview, upper, map)
 }
 
-// The overview's rows: a chart's own, their numbers 40 higher.
+// The overview's rows: a chart's own, with its entry.
 fn overview_refusal(overview: &[u8]) -> Outcome
     ensures { λ r. ⌜ r ≡ first (overviewTable (now (overview .entry))) ⌝ }
 {
     let own = loops::accepted_refusal(overview);
     if own.number != 0 {
-        return outcome::refused(own.number + outcome::OVERVIEW, own.place);
+        return outcome::of_overview(own);
     }
     outcome::accepted()
 }
 
-// Number and place of the first row of the table that is met.
+// The first row of the table that is met.
 pub fn map_check(detail: &[u8], overview: &[u8], map: &[u8]) -> Outcome
     ensures { λ r. ⌜ r ≡ mapRefusal (now (detail .entry)) (now (overview .entry)) (now (map .entry)) ⌝ }
 {

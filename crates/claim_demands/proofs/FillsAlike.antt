@@ -9,7 +9,7 @@ use lib.ListN.{length}
 use lib.Dec.{ltb}
 use borrow.Author.Tests.{le-ltb}
 use Rattle.outcome.specs.declared.Outcome.{Outcome}
-use Rattle.outcome.specs.Refusal.{Row, refuse, whole, first}
+use Rattle.outcome.specs.Refusal.{Row, row, refuse, whole, first}
 use Rattle.outcome.proofs.First.{Numbered, first-passed, part-passes, zero-iff}
 use Rattle.chart.specs.Bytes.{stateCount}
 use Rattle.chart.specs.Refusals.{chartTable}
@@ -26,8 +26,8 @@ use Rattle.claim_demands.specs.FillsAlike.{FillsAlike}
 front-same : (xs ys zs : List Row) → first ys ≡ first zs → first (xs ++ ys) ≡ first (xs ++ zs)
 unfolding first
 front-same [] ys zs e = e
-front-same (refuse n none ∷ xs) ys zs e = front-same xs ys zs e
-front-same (refuse n (some p) ∷ xs) ys zs e = refl
+front-same (row c n none ∷ xs) ys zs e = front-same xs ys zs e
+front-same (row c n (some p) ∷ xs) ys zs e = refl
 
 own-numbered : (counting : Bool) (rule : List ℕ) → Numbered (ownRows counting rule)
 unfolding boundRow

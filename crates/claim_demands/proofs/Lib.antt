@@ -1,4 +1,5 @@
 pub mod Answers
+pub mod Entries
 pub mod Judge
 pub mod TrueReasons
 pub mod Show

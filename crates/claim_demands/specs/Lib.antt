@@ -1,5 +1,6 @@
 pub mod Acceptable
 pub mod Answers
+pub mod Entries
 pub mod TrueReasons
 pub mod ShowTold
 pub mod FirstDemand

@@ -48,7 +48,7 @@ count-accepts scratch e =
     record {
       chart-accepted = r .chart;
       rule-accepted = r .rule;
-      bounds = own-iff true listedRule .0 (passed 63 end);
+      bounds = own-iff true listedRule .0 (passed _ 63 end);
       table = omega (arith);
       room = omega (arith, e);
     }

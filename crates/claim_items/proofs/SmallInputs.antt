@@ -1,10 +1,11 @@
--- The small inputs are answered with the number and the place that are listed: one computed test over each list.
+-- The small inputs are answered with the number, the place and the entry that are listed: one computed test over each list.
 use mathlib.Core.Path.{_≡_, refl}
 use mathlib.Core.Bool.{true}
 use Rattle.base.specs.Tabulate.{tabulate}
 use Rattle.base.specs.Sum.{sum}
 use Rattle.base.specs.Every.{every}
 use Rattle.model.specs.TimedLoop.{leads}
+use Rattle.outcome.specs.Entry.{entryOf}
 use Rattle.outcome.specs.Refusal.{lowest, first}
 use Rattle.chart.specs.Bytes.{arrowWords, chartOf}
 use Rattle.chart.specs.Refusals.{leftBy, chartTable}
@@ -22,27 +23,27 @@ use Rattle.claim_items.specs.SmallInputs.{charts, rules, maps, checks, c
 use Rattle.claim_items.specs.SmallInputs.{asListed, mapAsListed, judgeAsListed}
 
 pub charts-refused : every (asListed acceptedRefusal) charts ≡ true
-unfolding every charts acceptedTable chartTable loopRow arrowWords chartOf tabulate leads leftBy lowest first
+unfolding every charts acceptedTable chartTable loopRow arrowWords chartOf tabulate leads leftBy lowest first entryOf
 charts-refused = refl
 
 pub rules-refused : every (asListed ruleRefusal) rules ≡ true
-unfolding every rules ruleTable nodeWords formOf wrongKind wrongA malformed notLower usesIn uses sum lowest first
+unfolding every rules ruleTable nodeWords formOf wrongKind wrongA malformed notLower usesIn uses sum lowest first entryOf
 rules-refused = refl
 
 pub maps-refused : every mapAsListed maps ≡ true
 unfolding
     every maps mapCheckTable mapTable noMap covered acceptedTable chartTable loopRow arrowWords chartOf tabulate leads
-    leftBy lowest first
+    leftBy lowest first entryOf
 maps-refused = refl
 
 pub checks-refused : every (judgeAsListed checkRefusal) checks ≡ true
 unfolding
-    every checks judgeTable chartTable loopRow arrowWords chartOf tabulate leads leftBy lowest first ruleTable nodeWords
+    every checks judgeTable chartTable loopRow arrowWords chartOf tabulate leads leftBy lowest first entryOf ruleTable nodeWords
     formOf wrongKind wrongA malformed notLower usesIn uses sum
 checks-refused = refl
 
 pub counts-refused : every (judgeAsListed countRefusal) counts ≡ true
 unfolding
-    every counts judgeTable chartTable loopRow arrowWords chartOf tabulate leads leftBy lowest first ruleTable nodeWords
+    every counts judgeTable chartTable loopRow arrowWords chartOf tabulate leads leftBy lowest first entryOf ruleTable nodeWords
     formOf wrongKind wrongA malformed notLower usesIn uses sum boundRow
 counts-refused = refl

@@ -26,10 +26,10 @@ module _
     (told : Checked chart rule lentMarks lentScratch r newMarks newScratch)
   where
     -- a refusal: its line is printed
-    pub refusal-printed : (r .number ≡ 0 → ⊥) → refusedLine (r .number) (r .place) ≡ printed chart rule
+    pub refusal-printed : (r .number ≡ 0 → ⊥) → refusedLine r ≡ printed chart rule
     unfolding printed
     refusal-printed h =
-        let e : refusedLine (r .number) (r .place) ≡ textOf chart rule r = rw (ne-eqb (r .number) 0 h) in
+        let e : refusedLine r ≡ textOf chart rule r = rw (ne-eqb (r .number) 0 h) in
         e ∙ ap (textOf chart rule) (told .answer)
 
     module _ (z : r .number ≡ 0) where

@@ -2,9 +2,9 @@
 ghost use Prim.Native.Nat.{_+_, _*_, _≤_};
 ghost use lib.ListN.{length, take};
 ghost use Rattle.io.specs.Counts.{Counts};
-ghost use Rattle.append.specs.Piece.{AtFront};
 ghost use Rattle.desk_call.specs.Files.{Files};
-ghost use Rattle.desk_call.specs.Printed.{printed};
+ghost use Rattle.desk_call.specs.Printed.{Reports};
+use outcome::Outcome;
 
 // How many bytes are read of a chart's file and of a rule's.
 pub const CHART: usize = 16906;
@@ -32,32 +32,40 @@ pub fn read(name: &[u8], space: &mut [u8]) -> usize
     count
 }
 
+// What a call answered, and how many bytes are printed of it.
+pub struct Reported {
+    pub outcome: Outcome,
+    pub printed: usize,
+}
+
 // The text that is printed of a chart and a rule, put into out.
-fn report(chart: &[u8], rule: &[u8], out: &mut [u8]) -> usize
+fn report(chart: &[u8], rule: &[u8], out: &mut [u8]) -> Reported
     requires { ⌜ 20 + 64 * 260 ≤ length (now out) ⌝ }
-    ensures { λ r. ⌜ AtFront (printed (now (chart .entry)) (now (rule .entry))) r (now (out .entry)) (now (out .exit)) ⌝ }
+    ensures { λ r. ⌜ Reports (now (chart .entry)) (now (rule .entry)) r (now (out .entry)) (now (out .exit)) ⌝ }
 {
     let mut marks = [0; MARKS];
     let mut scratch = [0; SCRATCH];
-    let answer = call_check::check(chart, rule, &mut marks, &mut scratch);
-    if answer.number != 0 {
-        return listing::refuse(answer.number, answer.place, out);
+    let outcome = call_check::check(chart, rule, &mut marks, &mut scratch);
+    if outcome.number != 0 {
+        let printed = listing::refuse(outcome, out);
+        return Reported { outcome, printed };
     }
     let n = chart::state_count(chart);
     let k = rule::node_count(rule);
-    listing::list(n, k, &marks, out)
+    let printed = listing::list(n, k, &marks, out);
+    Reported { outcome, printed }
 }
 
 // The same of two files, of which i bytes of the chart and j of the rule were read.
-fn report_files(chart: &[u8], i: usize, rule: &[u8], j: usize, out: &mut [u8]) -> usize
+fn report_files(chart: &[u8], i: usize, rule: &[u8], j: usize, out: &mut [u8]) -> Reported
     requires { ⌜ Files (now chart) i (now rule) j × (20 + 64 * 260 ≤ length (now out)) ⌝ }
-    ensures { λ r. ⌜ AtFront (printed (take i (now (chart .entry))) (take j (now (rule .entry)))) r
+    ensures { λ r. ⌜ Reports (take i (now (chart .entry))) (take j (now (rule .entry))) r
         (now (out .entry)) (now (out .exit)) ⌝ }
 {
     report(&chart[..i], &rule[..j], out)
 }
 
-// Reads desk.cht and desk.rul, and prints the report. A file longer than any accepted is read for one byte more than
+// Reads desk.cht and desk.rul, prints the report, and tells a refusal. A file longer than any accepted is read for one byte more than
 // the longest, and so refused.
 pub fn run() {
     let mut chart = [0; CHART];
@@ -65,6 +73,9 @@ pub fn run() {
     let chart_size = read(b"desk.cht", &mut chart);
     let rule_size = read(b"desk.rul", &mut rule);
     let mut text = [0; TEXT];
-    let size = report_files(&chart, chart_size, &rule, rule_size, &mut text);
-    io::write_all(libc::STDOUT_FILENO, &text[..size]);
+    let reported = report_files(&chart, chart_size, &rule, rule_size, &mut text);
+    let printed = reported.printed;
+    io::write_all(libc::STDOUT_FILENO, &text[..printed]);
+    let outcome = reported.outcome;
+    telling::tell(b"desk", outcome);
 }

@@ -10,12 +10,14 @@ ghost use Rattle.call_read_rule.specs.Read.{ReadAs};
 ghost use Rattle.call_write_rule.specs.Write.{Wrote};
 ghost use Rattle.call_reader.specs.Reading.{handed};
 ghost use Rattle.coded.specs.Coded.{Coded, sizeOf, codedArrow};
+ghost use Rattle.refusal_words.specs.Words.{wordsOf};
 use call_reader::Handed;
 use call_row::Place;
 use coded::CodedAnswer;
 use coded::CodedArrow;
 use outcome::Outcome;
 use outcome::Written;
+use refusal_words::Words;
 
 #[no_mangle]
 pub extern "C" fn doilystrand_check(
@@ -118,4 +120,12 @@ pub extern "C" fn doilystrand_arrow(chart: &[u8], number: usize) -> CodedArrow
         Handed::Arrow(a) => coded::coded_words(a),
         Handed::Finished => coded::coded_end(),
     }
+}
+
+// What an outcome says in words; of success only that no paper was wrong.
+#[no_mangle]
+pub extern "C" fn doilystrand_words_of(outcome: Outcome) -> Words
+    ensures { λ r. ⌜ r ≡ wordsOf (outcome .number) (outcome .entry) ⌝ }
+{
+    refusal_words::words_of(outcome.number, outcome.entry)
 }

@@ -6,6 +6,7 @@ use lib.ListN.{length, getD, length-append}
 use Rattle.listing.specs.Text.{statesWord, nodesWord, refusedWord, atWord, space, newline}
 use Rattle.listing.specs.Text.{joined, markDigit, markLine, nodeLine, twoNumbers, listing, refusedLine}
 use Rattle.decimal.specs.Decimal.{decimal}
+use Rattle.outcome.specs.declared.Outcome.{Outcome}
 use Rattle.append.specs.Piece.{Room}
 use Rattle.listing.proofs.Joined.{joined-size}
 use Rattle.decimal.proofs.Decimal.{decimal-size}
@@ -53,11 +54,21 @@ listing-room n k marks out h i room =
     let parts = length-append (counts ++ newline) (joined k (nodeLine n marks)) in
     record { fits = omega (arith, room, first, lines, i, length-append counts newline, parts) }
 
--- two numbers of at most ten digits
-pub refused-room :
-    (number place : ℕ) (out : List ℕ) → number < 2 ^ 32 → place < 2 ^ 32 → 33 ≤ length out →
-    Room 0 (refusedLine number place) out
+-- three numbers of at most ten digits
+pub record Ranged (o : Outcome) : Type 0 where
+  pub number : o .number < 2 ^ 32
+  pub place : o .place < 2 ^ 32
+  pub entry : o .entry < 2 ^ 32
+
+pub refused-size : (o : Outcome) → Ranged o → length (refusedLine o) ≤ 44
 unfolding refusedLine
-refused-room number place out h i room =
-    let numbers = numbers-size refusedWord atWord number place 9 9 (omega arith) (omega arith) in
-    record { fits = omega (arith, room, numbers, length-append (twoNumbers refusedWord number atWord place) newline) }
+refused-size o r =
+    let placed = twoNumbers refusedWord (o .number) atWord (o .place) in
+    omega (
+      arith,
+      numbers-size refusedWord atWord (o .number) (o .place) 9 9 (omega (arith, r .number)) (omega (arith, r .place)),
+      decimal-size 9 (o .entry) (omega (arith, r .entry)),
+      length-append placed space,
+      length-append (placed ++ space) (decimal (o .entry)),
+      length-append (placed ++ space ++ decimal (o .entry)) newline,
+    )

@@ -5,6 +5,7 @@ use Prim.Native.Nat.{ℕ, zero, suc, _+_, _*_}
 use lib.ListN.{getD}
 use lib.Dec.{eqb}
 use Rattle.decimal.specs.Decimal.{decimal}
+use Rattle.outcome.specs.declared.Outcome.{Outcome}
 
 -- "states "
 abbrev pub statesWord : List ℕ
@@ -55,6 +56,7 @@ twoNumbers first x second y = first ++ decimal x ++ second ++ decimal y
 unfoldable pub listing : ℕ → ℕ → List ℕ → List ℕ
 listing n k marks = twoNumbers statesWord n nodesWord k ++ newline ++ joined k (nodeLine n marks)
 
--- "A refusal is the one line "refused 9 at 2": number, then place."
-unfoldable pub refusedLine : ℕ → ℕ → List ℕ
-refusedLine number place = twoNumbers refusedWord number atWord place ++ newline
+-- "A refusal is the one line "refused 9 at 2": number, then place.", and it "ends with a space and that entry" (02,
+-- paper 6)
+unfoldable pub refusedLine : Outcome → List ℕ
+refusedLine o = twoNumbers refusedWord (o .number) atWord (o .place) ++ space ++ decimal (o .entry) ++ newline

@@ -6,6 +6,7 @@ ghost use Rattle.listing.specs.Text.{joined, markLine, nodeLine, twoNumb
 ghost use Rattle.listing.specs.Text.{listing, refusedLine};
 ghost use Rattle.listing.specs.Text.{markDigit};
 ghost use Rattle.append.specs.Piece.{Room, Appended, AtFront};
+use outcome::Outcome;
 
 fn mark_digit(byte: u8) -> u8
     ensures { λ r. ⌜ r ≡ markDigit byte ⌝ }
@@ -73,11 +74,16 @@ pub fn list(n: usize, k: usize, marks: &[u8], out: &mut [u8]) -> usize
     put_nodes(n, k, marks, end, out)
 }
 
-// The line of a refusal: at most 33 bytes.
-pub fn refuse(number: u32, place: u32, out: &mut [u8]) -> usize
-    requires { ⌜ 33 ≤ length (now out) ⌝ }
-    ensures { λ r. ⌜ AtFront (refusedLine number place) r (now (out .entry)) (now (out .exit)) ⌝ }
+// The line of a refusal: at most 44 bytes.
+pub fn refuse(outcome: Outcome, out: &mut [u8]) -> usize
+    requires { ⌜ 44 ≤ length (now out) ⌝ }
+    ensures { λ r. ⌜ AtFront (refusedLine outcome) r (now (out .entry)) (now (out .exit)) ⌝ }
 {
-    let placed = put_numbers(b"refused ", number as usize, b" at ", place as usize, out);
-    append::put(b'\n', placed, out)
+    let number = outcome.number as usize;
+    let place = outcome.place as usize;
+    let entry = outcome.entry as usize;
+    let placed = put_numbers(b"refused ", number, b" at ", place, out);
+    let spaced = append::put(b' ', placed, out);
+    let entered = decimal::put_number(entry, spaced, out);
+    append::put(b'\n', entered, out)
 }

@@ -6,14 +6,14 @@ use mathlib.Core.Option.{Option, none, some}
 use Prim.Native.Nat.{ℕ, zero, suc, _<_}
 use native.Mathlib.Omega.{arith}
 use Rattle.outcome.specs.declared.Outcome.{Outcome}
-use Rattle.outcome.specs.Refusal.{Row, refuse, first, refusal, success}
+use Rattle.outcome.specs.Refusal.{Row, row, refuse, first, outcome, refusal, success}
 use Rattle.outcome.specs.Met.{Unmet, end, passed, FirstMet}
 
 -- no row has the number of success
 abbrev pub Numbered : List Row → Type 0
 Numbered [] = Unit {0}
-Numbered (refuse zero p ∷ rows) = ⊥
-Numbered (refuse (suc n) p ∷ rows) = Numbered rows
+Numbered (row e zero p ∷ rows) = ⊥
+Numbered (row e (suc n) p ∷ rows) = Numbered rows
 
 -- a row that is not met is passed over, and one that is met is the answer
 pub first-passed : (n : ℕ) (p : Option ℕ) (rows : List Row) → p ≡ none → first (refuse n p ∷ rows) ≡ first rows
@@ -27,10 +27,10 @@ first-met n p i rows e = rw e
 -- where there is no refusal, no row is met: the first that is met gives its number, which is not 0
 zero-unmet : (rows : List Row) → Numbered rows → first rows .number ≡ 0 → Unmet rows
 unfolding first
-zero-unmet [] h e = end
-zero-unmet (refuse zero p ∷ rows) h e = absurd h
-zero-unmet (refuse (suc n) none ∷ rows) h e = passed (suc n) (zero-unmet rows h e)
-zero-unmet (refuse (suc n) (some i) ∷ rows) h e = absurd (let z : ⊥ = omega arith in z)
+zero-unmet [] h z = end
+zero-unmet (row e zero p ∷ rows) h z = absurd h
+zero-unmet (row e (suc n) none ∷ rows) h z = passed e (suc n) (zero-unmet rows h z)
+zero-unmet (row e (suc n) (some i) ∷ rows) h z = absurd (let no : ⊥ = omega arith in no)
 
 -- a row by itself answers its number, or 0
 pub alone : (n : ℕ) (p : Option ℕ) → (first (refuse n p ∷ []) .number ≡ 0) ⊎ (first (refuse n p ∷ []) .number ≡ n)
@@ -41,13 +41,13 @@ alone n (some i) = inr refl
 -- the place of row i, counted from 0, if its condition is met
 abbrev pub placeAt : List Row → ℕ → Option ℕ
 placeAt [] i = none
-placeAt (refuse n p ∷ rows) zero = p
-placeAt (refuse n p ∷ rows) (suc i) = placeAt rows i
+placeAt (row e n p ∷ rows) zero = p
+placeAt (row e n p ∷ rows) (suc i) = placeAt rows i
 
 unmet-place : {rows : List Row} → Unmet rows → (i : ℕ) → placeAt rows i ≡ none
 unmet-place end i = refl
-unmet-place (passed n u) zero = refl
-unmet-place (passed n u) (suc i) = unmet-place u i
+unmet-place (passed e n u) zero = refl
+unmet-place (passed e n u) (suc i) = unmet-place u i
 
 pub unmet-at : (rows : List Row) → Numbered rows → first rows .number ≡ 0 → (i : ℕ) → placeAt rows i ≡ none
 unmet-at rows h e = unmet-place (zero-unmet rows h e)
@@ -57,13 +57,13 @@ unmet-at rows h e = unmet-place (zero-unmet rows h e)
 unmet-first : (ys : List Row) {xs : List Row} → Unmet xs → first (xs ++ ys) ≡ first ys
 unfolding first
 unmet-first ys end = refl
-unmet-first ys (passed n u) = unmet-first ys u
+unmet-first ys (passed e n u) = unmet-first ys u
 
 append-stop : (xs ys : List Row) → (first xs .number ≡ 0 → ⊥) → first (xs ++ ys) ≡ first xs
 unfolding first
 append-stop [] ys h = absurd (h refl)
-append-stop (refuse n none ∷ xs) ys h = append-stop xs ys h
-append-stop (refuse n (some i) ∷ xs) ys h = refl
+append-stop (row e n none ∷ xs) ys h = append-stop xs ys h
+append-stop (row e n (some i) ∷ xs) ys h = refl
 
 -- a part of which the outcome r is no refusal
 pub part-zero : (xs : List Row) {r : Outcome} → r ≡ first xs → r .number ≡ 0 → first xs .number ≡ 0
@@ -80,36 +80,37 @@ part-passes xs ys h e z f = f ∙ sym (unmet-first ys (zero-unmet xs h (part-zer
 
 -- ── Which row is the answer ──
 
-met-first : (rows : List Row) (n p : ℕ) → FirstMet rows n p → first rows ≡ refusal n p
-met-first rows n p m =
-    ap first (m .split) ∙
-    unmet-first (refuse n (some p) ∷ m .after) (m .unmet) ∙
-    first-met n (some p) p (m .after) refl
-
-first-is-met : (rows : List Row) (n p : ℕ) → 0 < n → first rows ≡ refusal n p → FirstMet rows n p
+met-first : (rows : List Row) (e n p : ℕ) → FirstMet rows e n p → first rows ≡ outcome n p e
 unfolding first
-first-is-met [] n p l e = let z : 0 ≡ n = ap (λ (o : Outcome). o .number) e in absurd (let o : ⊥ = omega arith in o)
-first-is-met (refuse k none ∷ rows) n p l e =
-    let m = first-is-met rows n p l e in
+met-first rows e n p m = ap first (m .split) ∙ unmet-first (row e n (some p) ∷ m .after) (m .unmet)
+
+first-is-met : (rows : List Row) (e n p : ℕ) → 0 < n → first rows ≡ outcome n p e → FirstMet rows e n p
+unfolding first
+first-is-met [] e n p l same =
+    let z : 0 ≡ n = ap (λ (o : Outcome). o .number) same in
+    absurd (let no : ⊥ = omega arith in no)
+first-is-met (row d k none ∷ rows) e n p l same =
+    let m = first-is-met rows e n p l same in
     record {
-      before = refuse k none ∷ m .before;
+      before = row d k none ∷ m .before;
       after = m .after;
-      split = ap (λ x. refuse k none ∷ x) (m .split);
-      unmet = passed k (m .unmet);
+      split = ap (λ x. row d k none ∷ x) (m .split);
+      unmet = passed d k (m .unmet);
     }
-first-is-met (refuse k (some i) ∷ rows) n p l e =
-    let a : k ≡ n = ap (λ (o : Outcome). o .number) e in
-    let b : i ≡ p = ap (λ (o : Outcome). o .place) e in
+first-is-met (row d k (some i) ∷ rows) e n p l same =
+    let a : k ≡ n = ap (λ (o : Outcome). o .number) same in
+    let b : i ≡ p = ap (λ (o : Outcome). o .place) same in
+    let c : d ≡ e = ap (λ (o : Outcome). o .entry) same in
     record { before = []; after = rows; split = cc; unmet = end }
 
 -- "each number is returned if and only if its condition is met and none tested before it is"
-pub first-iff : (rows : List Row) (n p : ℕ) → 0 < n → (first rows ≡ refusal n p) ↔ FirstMet rows n p
-first-iff rows n p l = (first-is-met rows n p l, met-first rows n p)
+pub first-iff : (rows : List Row) (e n p : ℕ) → 0 < n → (first rows ≡ outcome n p e) ↔ FirstMet rows e n p
+first-iff rows e n p l = (first-is-met rows e n p l, met-first rows e n p)
 
 unmet-success : {rows : List Row} → Unmet rows → first rows ≡ success
 unfolding first
 unmet-success end = refl
-unmet-success (passed n u) = unmet-success u
+unmet-success (passed e n u) = unmet-success u
 
 -- a call succeeds just where no row is met
 pub success-iff : (rows : List Row) → Numbered rows → (first rows ≡ success) ↔ Unmet rows

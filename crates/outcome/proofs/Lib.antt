@@ -3,6 +3,9 @@ pub mod Found
 pub mod Lowest
 pub mod First
 pub mod Unmet
-pub mod Shift
+pub mod Carrying
+pub mod Agree
+pub mod Carried
+pub mod Own
 pub mod Search
 pub mod Bounded

@@ -4,25 +4,25 @@ use mathlib.Core.Logic.{_↔_}
 use mathlib.Core.List.{List, [], _∷_, _++_}
 use mathlib.Core.Option.{Option, none, some, Option·some-ne-none}
 use Prim.Native.Nat.{ℕ}
-use Rattle.outcome.specs.Refusal.{Row, refuse}
+use Rattle.outcome.specs.Refusal.{Row, row}
 use Rattle.outcome.specs.Met.{Unmet, end, passed}
 
 -- one row more, whose condition is not met
-pub unmet-more : {n : ℕ} {p : Option ℕ} {rows : List Row} → p ≡ none → Unmet rows → Unmet (refuse n p ∷ rows)
-unmet-more {n} {p = none} e u = passed n u
-unmet-more {p = some i} e u = absurd (Option·some-ne-none i e)
+pub unmet-more : {e n : ℕ} {p : Option ℕ} {rows : List Row} → p ≡ none → Unmet rows → Unmet (row e n p ∷ rows)
+unmet-more {e} {n} {p = none} h u = passed e n u
+unmet-more {p = some i} h u = absurd (Option·some-ne-none i h)
 
 -- the first row's condition is not met, nor are those after it
-pub unmet-row : {n : ℕ} {p : Option ℕ} {rows : List Row} → Unmet (refuse n p ∷ rows) → (p ≡ none) × Unmet rows
-unmet-row (passed n u) = (refl, u)
+pub unmet-row : {e n : ℕ} {p : Option ℕ} {rows : List Row} → Unmet (row e n p ∷ rows) → (p ≡ none) × Unmet rows
+unmet-row (passed e n u) = (refl, u)
 
 unmet-join : {xs ys : List Row} → Unmet xs → Unmet ys → Unmet (xs ++ ys)
 unmet-join end v = v
-unmet-join (passed n u) v = passed n (unmet-join u v)
+unmet-join (passed e n u) v = passed e n (unmet-join u v)
 
 unmet-split : (xs : List Row) {ys : List Row} → Unmet (xs ++ ys) → Unmet xs × Unmet ys
 unmet-split [] u = (end, u)
-unmet-split (refuse n p ∷ xs) u =
+unmet-split (row e n p ∷ xs) u =
     let r = unmet-row u in
     let h = unmet-split xs (r .1) in
     (unmet-more (r .0) (h .0), h .1)

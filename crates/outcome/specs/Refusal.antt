@@ -1,23 +1,32 @@
--- Tables of refusals. The quoted sentences are of 01, "Refused with number and place".
+-- Tables of refusals. The quoted sentences are of 01, "Refused with number and place", and of 02, paper 6.
 use mathlib.Core.Bool.{Bool, true, false, _||_}
 use mathlib.Core.List.{List, [], _∷_}
 use mathlib.Core.Option.{Option, none, some}
-use Prim.Native.Nat.{ℕ, zero, suc, _+_}
+use Prim.Native.Nat.{ℕ, zero, suc}
 use lib.ListN.{take, drop}
 use lib.Dec.{ltb}
 use Rattle.outcome.specs.declared.Outcome.{Outcome}
+use Rattle.outcome.specs.Entry.{entryOf}
 
--- "Success is number 0, place 0."
+-- "Success is number 0, place 0.", "0 none"
 abbrev pub success : Outcome
-success = record { number = 0; place = 0 }
+success = record { number = 0; place = 0; entry = 0 }
 
--- "Refused with number and place"
+-- "Refused with number and place", and "a third entry"
+abbrev pub outcome : ℕ → ℕ → ℕ → Outcome
+outcome n p e = record { number = n; place = p; entry = e }
+
+-- the entry is the number's own
 abbrev pub refusal : ℕ → ℕ → Outcome
-refusal n p = record { number = n; place = p }
+refusal n p = outcome n p (entryOf n)
 
--- a row of the table: its number, and the place if its condition is met
+-- a row of the table: the entry that it carries, its number, and the place if its condition is met
 pub data Row : Type 0 where
-  refuse : ℕ → Option ℕ → Row
+  row : ℕ → ℕ → Option ℕ → Row
+
+-- a row that carries its number's own entry
+abbrev pub refuse : ℕ → Option ℕ → Row
+refuse n p = row (entryOf n) n p
 
 -- place "0 where none is named": a condition on the whole
 abbrev pub whole : Bool → Option ℕ
@@ -45,20 +54,20 @@ lowest p zero = none
 lowest p (suc k) = orElse (lowest p k) (p k) k
 
 -- this row's refusal, or else what the later rows give
-abbrev pub orLater : ℕ → Option ℕ → Outcome → Outcome
-orLater n (some p) later = refusal n p
-orLater n none later = later
+abbrev pub orLater : ℕ → ℕ → Option ℕ → Outcome → Outcome
+orLater e n (some p) later = outcome n p e
+orLater e n none later = later
 
 -- "each number is returned if and only if its condition is met and none tested before it is": the first row that is met
 unfoldable pub first : List Row → Outcome
 first [] = success
-first (refuse n p ∷ rows) = orLater n p (first rows)
+first (row e n p ∷ rows) = orLater e n p (first rows)
 
 -- k rows of a table from the i-th on, counted from 0: what one function tests
 abbrev pub rows : ℕ → ℕ → List Row → List Row
 rows i k table = take k (drop i table)
 
--- "the same plus 40": the rows, their numbers k higher
-abbrev pub shifted : ℕ → List Row → List Row
-shifted k [] = []
-shifted k (refuse n p ∷ rows) = refuse (k + n) p ∷ shifted k rows
+-- the rows, each with another entry: "Overview refusals then use the chart numbers"
+abbrev pub carrying : ℕ → List Row → List Row
+carrying e [] = []
+carrying e (row own n p ∷ rows) = row e n p ∷ carrying e rows

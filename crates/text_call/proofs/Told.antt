@@ -43,15 +43,13 @@ module _ (rule : List ℕ) (bytes : (i : ℕ) → getD rule i 0 < 256) where
           sym (part-passes (ruleTable rule) (last room) tt refl z (accepted ∙ sym fits))
 
   module _ {lent new : List ℕ} {r : Written} (h : 532 ≤ length lent) (wrote : Wrote rule lent r new) where
-    same : r .outcome ≡ ruleRefusal rule
+    pub same : r .outcome ≡ ruleRefusal rule
     same = wrote .outcome ∙ never-short (length lent) h
 
-    pub refused-printed :
-        ¬ (r .outcome .number ≡ 0) → refusedLine (r .outcome .number) (r .outcome .place) ≡ printedText rule
+    pub refused-printed : ¬ (r .outcome .number ≡ 0) → refusedLine (r .outcome) ≡ printedText rule
     unfolding printedText
     refused-printed k =
-        let e : refusedLine (r .outcome .number) (r .outcome .place) ≡ lineOf rule (r .outcome) =
-        rw (ne-eqb (r .outcome .number) 0 k) in
+        let e : refusedLine (r .outcome) ≡ lineOf rule (r .outcome) = rw (ne-eqb (r .outcome .number) 0 k) in
         e ∙ ap (lineOf rule) same
 
     module _ (z : r .outcome .number ≡ 0) where

@@ -1,14 +1,15 @@
 -- Neither what is read nor what is lent is too short.
 use mathlib.Core.Path.{_≡_, refl}
 use mathlib.Core.Bool.{Bool, true, false}
-use mathlib.Core.List.{List}
+use mathlib.Core.List.{List, [], _∷_}
+use mathlib.Core.Option.{some}
 use Prim.Native.Nat.{ℕ, _+_, _-_, _*_, _≤_}
 use native.Mathlib.Omega.{arith}
 use lib.ListN.{length, getD, length-take}
 use lib.Dec.{eqb, ltb}
 use borrow.Author.Tests.{ltb-false, le-ltb}
 use Rattle.outcome.specs.declared.Outcome.{Outcome}
-use Rattle.outcome.specs.Refusal.{whole, orLater, refusal, success, first}
+use Rattle.outcome.specs.Refusal.{refuse, whole, first}
 use Rattle.rule_grammar.specs.Grammar.{Verdict, Judged, faulty, whole as textual}
 use Rattle.call_read_rule.specs.Read.{nodesOf, readTable}
 use Rattle.typed_call.specs.Answer.{ruleRoom, typed, outcomeOf, Enough}
@@ -34,14 +35,14 @@ pub answer-near : {t : List ℕ} {v : Verdict} → Judged t v → Near (outcomeO
 unfolding readTable first
 answer-near {t} (faulty {p = p} f) = turn (ltb 4096 (length t)) refl
   where
-    turn : (b : Bool) → ltb 4096 (length t) ≡ b → Near (orLater 65 (whole b) (refusal 64 p))
+    turn : (b : Bool) → ltb 4096 (length t) ≡ b → Near (first (refuse 65 (whole b) ∷ refuse 64 (some p) ∷ []))
     turn true e = (omega arith, λ z. omega arith)
     turn false e = (omega (arith, ltb-false 4096 (length t) e, f .place .inside), λ z. omega arith)
 answer-near {t} {v} (textual h) = turn (ltb 4096 (length t)) (ltb 64 (nodesOf v)) refl
   where
     turn :
         (a b : Bool) → ltb 64 (nodesOf v) ≡ b → let short = ltb ruleRoom (7 + 8 * nodesOf v) in
-        Near (orLater 65 (whole a) (orLater 65 (whole b) (orLater 66 (whole short) success)))
+        Near (first (refuse 65 (whole a) ∷ refuse 65 (whole b) ∷ refuse 66 (whole short) ∷ []))
     turn true b e = (omega arith, λ z. omega arith)
     turn false true e = (omega arith, λ z. omega arith)
     turn false false e =

@@ -32,22 +32,23 @@ module _
 
     answers :
         {printed : ℕ} {out newOut : List ℕ} → AtFront (printedOf (typed input) (r .outcome)) printed out newOut →
-        Typing input rule out (record { written = r .written; printed = printed }) newRule newOut
+        Typing input rule out (record { outcome = r .outcome; written = r .written; printed = printed }) newRule newOut
     answers {printed} {out} {newOut} p =
         record {
           verdict = v;
           judged = judged;
+          answer = same;
           rule-front = subst (λ o. AtFront (writtenRule v (o .number)) (r .written) rule newRule) same (read .front);
           text-front = subst (λ o. AtFront (printedOf (typed input) o) printed out newOut) same p;
         }
 
     pub accepted :
         {out : List ℕ} → r .outcome .number ≡ 0 →
-        Typing input rule out (record { written = r .written; printed = 0 }) newRule out
+        Typing input rule out (record { outcome = r .outcome; written = r .written; printed = 0 }) newRule out
     accepted z = answers (rw (eq-eqb (r .outcome .number) 0 z) at-front-none)
 
     pub refused :
         {printed : ℕ} {out newOut : List ℕ} → ¬ (r .outcome .number ≡ 0) →
-        AtFront (refusedText (r .outcome .number) (r .outcome .place) t) printed out newOut →
-        Typing input rule out (record { written = r .written; printed = printed }) newRule newOut
+        AtFront (refusedText (r .outcome) t) printed out newOut →
+        Typing input rule out (record { outcome = r .outcome; written = r .written; printed = printed }) newRule newOut
     refused h p = answers (rw (ne-eqb (r .outcome .number) 0 h, ← e) p)

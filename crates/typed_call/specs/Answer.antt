@@ -31,12 +31,13 @@ outcomeOf t v = first (readTable (length t) v ruleRoom)
 
 -- on acceptance nothing is printed
 abbrev pub printedOf : List ℕ → Outcome → List ℕ
-printedOf t o = cond (eqb (o .number) 0) [] (refusedText (o .number) (o .place) t)
+printedOf t o = cond (eqb (o .number) 0) [] (refusedText o t)
 
--- the rule that is written, and the text that is printed
+-- the answer, the rule that is written, and the text that is printed
 pub record Typing (input rule out : List ℕ) (r : Typed) (newRule newOut : List ℕ) : Type 0 where
   pub verdict : Verdict
   pub judged : Judged (typed input) verdict
+  pub answer : r .outcome ≡ outcomeOf (typed input) verdict
   pub rule-front : AtFront (writtenRule verdict (outcomeOf (typed input) verdict .number)) (r .written) rule newRule
   pub text-front : AtFront (printedOf (typed input) (outcomeOf (typed input) verdict)) (r .printed) out newOut
 

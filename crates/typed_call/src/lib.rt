@@ -4,6 +4,7 @@ ghost use Prim.Native.Nat.{_+_, _≤_};
 ghost use lib.ListN.{length};
 ghost use Rattle.io.specs.Counts.{Counts};
 ghost use Rattle.typed_call.specs.Answer.{inputRead, ruleRoom, typed, Typing};
+use outcome::Outcome;
 
 // How many bytes of standard input are read: one more than the longest text and its newline have.
 const INPUT: usize = 4098;
@@ -11,11 +12,12 @@ const INPUT: usize = 4098;
 // The bytes of the longest rule.
 const RULE: usize = 519;
 
-// The bytes of the longest text that is printed: lines of 33, 4,099 and 4,098 bytes.
-const TEXT: usize = 8230;
+// The bytes of the longest text that is printed: lines of 44, 4,099 and 4,098 bytes.
+const TEXT: usize = 8241;
 
-// How many bytes of the rule were written, and how many of the text that is printed.
+// What was answered, how many bytes of the rule were written, and how many of the text that is printed.
 struct Typed {
+    outcome: Outcome,
     written: usize,
     printed: usize,
 }
@@ -36,22 +38,27 @@ fn trimmed(input: &[u8]) -> &[u8]
 
 // The rule of an input, or the text that is printed of its refusal.
 fn answer(input: &[u8], rule: &mut [u8], out: &mut [u8]) -> Typed
-    requires { ⌜ (length (now rule) ≡ ruleRoom) × (33 + length (now input) + 1 + 4096 + 2 ≤ length (now out)) ⌝ }
+    requires { ⌜ (length (now rule) ≡ ruleRoom) × (44 + length (now input) + 1 + 4096 + 2 ≤ length (now out)) ⌝ }
     ensures { λ r. ⌜ Typing (now (input .entry)) (now (rule .entry)) (now (out .entry)) r
         (now (rule .exit)) (now (out .exit)) ⌝ }
 {
     let text = trimmed(input);
     let read = call_read_rule::read_rule(text, rule);
-    let refused = read.outcome;
+    let outcome = read.outcome;
     let written = read.written;
-    if refused.number == 0 {
+    if outcome.number == 0 {
         return Typed {
+            outcome,
             written,
             printed: 0,
         };
     }
-    let printed = typed_listing::refuse_text(refused.number, refused.place, text, out);
-    Typed { written, printed }
+    let printed = typed_listing::refuse_text(outcome, text, out);
+    Typed {
+        outcome,
+        written,
+        printed,
+    }
 }
 
 // The first bytes of standard input.
@@ -93,7 +100,7 @@ fn print_usage() {
     );
 }
 
-// Reads a text, and writes desk.rul or prints what is wrong with the text. There is no argument but the program's name.
+// Reads a text, and writes desk.rul or prints and tells what is wrong with the text. There is no argument but the program's name.
 pub fn run() {
     if os::arg_count() != 1 {
         print_usage();
@@ -107,6 +114,8 @@ pub fn run() {
     let written = typed.written;
     let printed = typed.printed;
     io::write_all(libc::STDOUT_FILENO, &text[..printed]);
+    let outcome = typed.outcome;
+    telling::tell(b"desk_rule", outcome);
     if written != 0 {
         save(&rule[..written]);
     }

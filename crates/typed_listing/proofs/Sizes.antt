@@ -1,16 +1,14 @@
 -- How much room the text of a refusal takes at most.
 use mathlib.Core.List.{List, _∷_, _++_}
-use Prim.Native.Nat.{ℕ, _+_, _^_, _≤_, _<_}
+use Prim.Native.Nat.{ℕ, _+_, _≤_}
 use native.Mathlib.Omega.{arith}
-use lib.ListN.{length, replicate, length-append}
+use lib.ListN.{length, length-append}
+use Rattle.outcome.specs.declared.Outcome.{Outcome}
 use Rattle.append.specs.Piece.{Room}
 use Rattle.listing.specs.Text.{newline, space, refusedLine}
 use Rattle.listing.proofs.Joined.{joined-size}
-use Rattle.listing.proofs.Sizes.{refused-room}
+use Rattle.listing.proofs.Sizes.{Ranged, refused-size}
 use Rattle.typed_listing.specs.Refused.{shownAt, shownText, spaces, caretLine, refusedText}
-
-line-size : (number place : ℕ) → number < 2 ^ 32 → place < 2 ^ 32 → length (refusedLine number place) ≤ 33
-line-size number place h i = omega (arith, refused-room number place (replicate 33 0) h i (omega arith) .fits)
 
 shown-size : (t : List ℕ) → length (shownText t) ≤ length t
 unfolding shownText
@@ -22,21 +20,21 @@ caret-size place =
     omega (arith, joined-size place 1 (λ i. space) (λ i l. omega arith), length-append (spaces place) (94 ∷ newline))
 
 pub refusal-room :
-    (number place : ℕ) (t out : List ℕ) → number < 2 ^ 32 → place < 2 ^ 32 →
-    33 + length t + 1 + place + 2 ≤ length out → Room 0 (refusedText number place t) out
+    (o : Outcome) (t out : List ℕ) → Ranged o → 44 + length t + 1 + o .place + 2 ≤ length out →
+    Room 0 (refusedText o t) out
 unfolding refusedText
-refusal-room number place t out h i room =
-    let line = refusedLine number place in
+refusal-room o t out ranged room =
+    let line = refusedLine o in
     record {
       fits =
           omega (
             arith,
             room,
-            line-size number place h i,
+            refused-size o ranged,
             shown-size t,
-            caret-size place,
+            caret-size (o .place),
             length-append line (shownText t),
             length-append (line ++ shownText t) newline,
-            length-append (line ++ shownText t ++ newline) (caretLine place),
+            length-append (line ++ shownText t ++ newline) (caretLine (o .place)),
           );
     }

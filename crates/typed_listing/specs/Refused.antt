@@ -4,6 +4,7 @@ use mathlib.Core.List.{List, [], _∷_, _++_}
 use Prim.Native.Nat.{ℕ}
 use lib.ListN.{length, getD}
 use lib.Dec.{eqb, ltb}
+use Rattle.outcome.specs.declared.Outcome.{Outcome}
 use Rattle.listing.specs.Text.{space, newline, joined, refusedLine}
 
 -- a control byte would end the line or move what follows it, so that "?" stands for it
@@ -25,5 +26,5 @@ unfoldable pub caretLine : ℕ → List ℕ
 caretLine place = spaces place ++ 94 ∷ newline
 
 -- the refusal as every program prints it, the text, and where in the text
-unfoldable pub refusedText : ℕ → ℕ → List ℕ → List ℕ
-refusedText number place t = refusedLine number place ++ shownText t ++ newline ++ caretLine place
+unfoldable pub refusedText : Outcome → List ℕ → List ℕ
+refusedText o t = refusedLine o ++ shownText t ++ newline ++ caretLine (o .place)

@@ -4,6 +4,7 @@ ghost use Prim.Native.Nat.{_+_, _≤_};
 ghost use lib.ListN.{length};
 ghost use Rattle.append.specs.Piece.{Room, Appended, AtFront};
 ghost use Rattle.typed_listing.specs.Refused.{shownByte, shownText, spaces, caretLine, refusedText};
+use outcome::Outcome;
 
 fn shown_byte(byte: u8) -> u8
     ensures { λ r. ⌜ r ≡ shownByte byte ⌝ }
@@ -48,13 +49,14 @@ fn put_caret(place: usize, at: usize, out: &mut [u8]) -> usize
     append::put_word(b"^\n", spaced, out)
 }
 
-// What is printed of the refusal of a text: a line of at most 33 bytes, the text's, and the caret's.
-pub fn refuse_text(number: u32, place: u32, text: &[u8], out: &mut [u8]) -> usize
-    requires { ⌜ 33 + length (now text) + 1 + place + 2 ≤ length (now out) ⌝ }
-    ensures { λ r. ⌜ AtFront (refusedText number place (now (text .entry))) r (now (out .entry)) (now (out .exit)) ⌝ }
+// What is printed of the refusal of a text: a line of at most 44 bytes, the text's, and the caret's.
+pub fn refuse_text(outcome: Outcome, text: &[u8], out: &mut [u8]) -> usize
+    requires { ⌜ 44 + length (now text) + 1 + outcome .place + 2 ≤ length (now out) ⌝ }
+    ensures { λ r. ⌜ AtFront (refusedText outcome (now (text .entry))) r (now (out .entry)) (now (out .exit)) ⌝ }
 {
-    let lined = listing::refuse(number, place, out);
+    let place = outcome.place as usize;
+    let lined = listing::refuse(outcome, out);
     let shown = put_shown(text, lined, out);
     let ended = append::put(b'\n', shown, out);
-    put_caret(place as usize, ended, out)
+    put_caret(place, ended, out)
 }

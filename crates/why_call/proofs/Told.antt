@@ -39,14 +39,15 @@ module _ {chart rule : List ℕ} {node state : ℕ} {answer : Written} {marks sc
     (s : Showed chart rule lentMarks lentTable node state lentRun answer marks scratch run) where
   pub refused-told :
       {r : ℕ} {old new : List ℕ} → ¬ (answer .outcome .number ≡ 0) →
-      AtFront (refusedLine (answer .outcome .number) (answer .outcome .place)) r old new →
-      Reports chart rule node state r old new
+      AtFront (refusedLine (answer .outcome)) r old new →
+      Reports chart rule node state (record { outcome = answer .outcome; printed = r }) old new
   refused-told h p =
       let number = ap (λ (o : Outcome). o .number) (s .answer) in
       record {
+        answer = s .answer;
         text = _;
         front = p;
-        refused = λ k. ap₂ refusedLine number (ap (λ (o : Outcome). o .place) (s .answer));
+        refused = λ k. ap refusedLine (s .answer);
         shown = λ z. absurd (h (number ∙ z));
       }
 
@@ -65,11 +66,12 @@ module _ {chart rule : List ℕ} {node state : ℕ} {answer : Written} {marks sc
     pub shown-told :
         {r : ℕ} {old new : List ℕ} {all : Bool} {c : ℕ} → all ≡ isAll chart rule node state →
         c ≡ nodeWords rule node .c → AtFront (runText all c (positionsOf (take (answer .written) run))) r old new →
-        Reports chart rule node state r old new
+        Reports chart rule node state (record { outcome = answer .outcome; printed = r }) old new
     shown-told {r} {old} {new} e f p =
         let number = ap (λ (o : Outcome). o .number) (s .answer) in
         let told = ap positionsOf taken ∙ positions-back (s .shown) in
         record {
+          answer = s .answer;
           text = _;
           front = p;
           refused = λ k. absurd (k (sym number ∙ z));

@@ -12,6 +12,7 @@ use Rattle.shown.specs.Shown.{Position, Shortest}
 use Rattle.call_show.specs.Show.{TrueRun, showRefusal}
 use Rattle.listing.specs.Text.{refusedLine}
 use Rattle.run_listing.specs.RunText.{runText}
+use Rattle.desk_call.specs.declared.Reported.{Reported}
 use Rattle.desk_call.specs.Printed.{lentMarks}
 
 -- the scratch and the output that are lent: 257 × 256 numbers, and 6 × 257 bytes, enough for any run
@@ -31,10 +32,11 @@ module _ (chart rule : List ℕ) (node state : ℕ) where
   isAll = eqb (nodeWords rule node .operation) 6
 
   -- the text of a shortest true run, "which of several appears is free" (02, paper 1), or the line of the refusal
-  pub record Reports (r : ℕ) (old new : List ℕ) : Type 0 where
+  pub record Reports (r : Reported) (old new : List ℕ) : Type 0 where
+    pub answer : r .outcome ≡ whyOf
     pub text : List ℕ
-    pub front : AtFront text r old new
-    pub refused : ¬ (whyOf .number ≡ 0) → text ≡ refusedLine (whyOf .number) (whyOf .place)
+    pub front : AtFront text (r .printed) old new
+    pub refused : ¬ (whyOf .number ≡ 0) → text ≡ refusedLine whyOf
     pub shown :
         whyOf .number ≡ 0 →
         (run : List Position) × (text ≡ runText isAll (nodeWords rule node .c) run) ×

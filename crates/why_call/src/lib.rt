@@ -3,6 +3,7 @@ ghost use Prim.Native.Nat.{_*_, _≤_};
 ghost use lib.ListN.{length};
 ghost use Rattle.why_call.specs.Why.{Reports};
 use arguments::Argument;
+use desk_call::Reported;
 
 // Marks and scratch for 256 states and 64 nodes, and room for the longest run.
 const MARKS: usize = 16384;
@@ -18,7 +19,7 @@ const TEXT: usize = 13364;
 const ARGUMENT: usize = 131072;
 
 // The text that is printed of a chart, a rule, a node and a state, put into out.
-fn report_why(chart: &[u8], rule: &[u8], node: usize, state: usize, out: &mut [u8]) -> usize
+fn report_why(chart: &[u8], rule: &[u8], node: usize, state: usize, out: &mut [u8]) -> Reported
     requires { ⌜ 257 * 52 ≤ length (now out) ⌝ }
     ensures { λ r. ⌜ Reports (now (chart .entry)) (now (rule .entry)) node state r (now (out .entry)) (now (out .exit)) ⌝ }
 {
@@ -28,29 +29,34 @@ fn report_why(chart: &[u8], rule: &[u8], node: usize, state: usize, out: &mut [u
     let answer = call_show::show(chart, rule, &mut marks, &mut scratch, node, state, &mut run);
     let outcome = answer.outcome;
     if outcome.number != 0 {
-        return listing::refuse(outcome.number, outcome.place, out);
+        let printed = listing::refuse(outcome, out);
+        return Reported { outcome, printed };
     }
     let written = answer.written;
     let words = rule::node_at(rule, node);
     let all = words.operation == rule::ALL_UNTIL;
-    run_listing::list_run(&run[..written], all, words.c, out)
+    let printed = run_listing::list_run(&run[..written], all, words.c, out);
+    Reported { outcome, printed }
 }
 
-// Reads desk.cht and desk.rul as the desk program does, and prints the report.
+// Reads desk.cht and desk.rul as the desk program does, prints the report, and tells a refusal.
 fn print_why(node: usize, state: usize) {
     let mut chart = [0; desk_call::CHART];
     let mut rule = [0; desk_call::RULE];
     let chart_size = desk_call::read(b"desk.cht", &mut chart);
     let rule_size = desk_call::read(b"desk.rul", &mut rule);
     let mut text = [0; TEXT];
-    let size = report_why(
+    let reported = report_why(
         &chart[..chart_size],
         &rule[..rule_size],
         node,
         state,
         &mut text,
     );
-    io::write_all(libc::STDOUT_FILENO, &text[..size]);
+    let printed = reported.printed;
+    io::write_all(libc::STDOUT_FILENO, &text[..printed]);
+    let outcome = reported.outcome;
+    telling::tell(b"desk_why", outcome);
 }
 
 fn print_usage() {

@@ -4,24 +4,26 @@
 //! rules typed as text or written back, and all 637,421 texts of up to four bytes. `--long [COUNT]` runs more
 //! (5,000,000 of either), `--seed S` others, `--case I` and `--text I` one of either by its number, `--short I` one of
 //! the short texts, `--named I` one of the named and large ones by its number, `--replay CASE` the one whose line a
-//! difference printed. The status is 1 if anything differs, or a number of the refusal table, what a shown run, a
-//! count, a read or a write can be, or a loop that can be taken in no time was never met, 2 if the options are wrong. A
-//! count is also compared with the library's own check, and what is read or written with what the library makes of that
-//! in turn.
+//! difference printed. The status is 1 if anything differs, or a number of the refusal table with one of its entries,
+//! what a shown run, a count, a read or a write can be, or a loop that can be taken in no time was never met, or the
+//! library's words are not for just the numbers that were met, 2 if the options are wrong. A count is also compared with
+//! the library's own check, and what is read or written with what the library makes of that in turn.
 //!
 //! `--programs DIR` runs the programs desk, desk_test_calls, desk_why, desk_rule and desk_text of that folder instead
 //! and compares all they print and write with the oracle's texts, or has the oracle judge it where several runs are
-//! right: on the named pairs of files and the named texts, then on 300 random pairs and 100 random texts with a fixed
-//! seed. The other options are the same, for pairs of files and texts; `--long` runs 10,000 and 3,000. The status is 1
-//! too if the random pairs did not lead to listings, runs and refusals, to rows that are found and to empty ones, or
-//! the random texts not to rules that are written and refused over files of every sort, and 2 if a program is not
-//! there.
+//! right, and what they say of a refusal on standard error with the library's words: on the named pairs of files and
+//! the named texts, then on 300 random pairs and 100 random texts with a fixed seed. The other options are the same, for
+//! pairs of files and texts; `--long` runs 10,000 and 3,000. The status is 1 too if the random pairs did not lead to
+//! listings, runs and refusals, to rows that are found and to empty ones, or the random texts not to rules that are
+//! written and refused over files of every sort, and 2 if a program is not there.
 //!
 //! The file that the variable DIFFERENTIAL_LAST names, if it is set, holds the options of the case under way.
 
 mod bytes;
 mod calls;
 mod cases;
+#[cfg(test)]
+mod entry_counts;
 mod named;
 mod options;
 mod programs;

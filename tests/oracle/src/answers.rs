@@ -1,18 +1,25 @@
 //! What the calls answer.
 
-/// Number and place of a refusal; both 0 on success.
+use crate::entry;
+
+/// Number and place of a refusal, and which paper was wrong; all 0 on success.
 #[derive(Clone, Copy, Debug, PartialEq, Eq)]
 pub struct Outcome {
     pub number: u32,
     pub place: u32,
+    pub entry: u32,
 }
 
 impl Outcome {
-    pub(crate) const SUCCESS: Outcome = Outcome { number: 0, place: 0 };
+    pub(crate) const SUCCESS: Outcome = Outcome { number: 0, place: 0, entry: entry::NONE };
+
+    pub(crate) fn at(number: u32, place: usize) -> Outcome {
+        Outcome { number, place: place as u32, entry: entry::of_row(number) }
+    }
 
     /// A refusal that names no offender.
     pub(crate) fn at_0(number: u32) -> Outcome {
-        Outcome { number, place: 0 }
+        Outcome::at(number, 0)
     }
 
     pub(crate) fn refused(self) -> bool {

@@ -11,7 +11,8 @@ pub const CHART_READ: usize = 16_906;
 pub const RULE_READ: usize = 520;
 
 pub fn refused_line(outcome: Outcome) -> String {
-    format!("refused {} at {}\n", outcome.number, outcome.place)
+    let Outcome { number, place, entry } = outcome;
+    format!("refused {number} at {place} {entry}\n")
 }
 
 /// A way to the marks, with chart, rule, marks and scratch.

@@ -15,6 +15,7 @@ mod check;
 mod count;
 mod desk;
 mod earley;
+mod entry;
 mod every_run;
 mod fill;
 mod front;

@@ -19,7 +19,7 @@ fn rule_of(text: &[u8]) -> Result<Vec<u8>, Outcome> {
     if text.len() > MOST_BYTES {
         return Err(Outcome::at_0(65));
     }
-    let parsed = parse(text).map_err(|place| Outcome { number: 64, place: place as u32 })?;
+    let parsed = parse(text).map_err(|place| Outcome::at(64, place))?;
     let nodes = nodes_of(text, &parsed);
     match nodes.len() <= MOST_NODES {
         true => Ok(rule_bytes(&nodes)),

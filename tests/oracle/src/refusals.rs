@@ -65,7 +65,7 @@ pub fn first_met(case: &Case<'_>, asked: &[RangeInclusive<u32>]) -> Outcome {
     let rows = asked.iter().flat_map(|range| TABLE.iter().filter(|(number, _)| range.contains(number)));
     for &(number, offender) in rows {
         if let Some(place) = offender(case) {
-            return Outcome { number, place: place as u32 };
+            return Outcome::at(number, place);
         }
     }
     Outcome::SUCCESS

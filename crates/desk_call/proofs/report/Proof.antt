@@ -38,8 +38,9 @@ few c =
 returns : tie.Need-returns
 returns c =
     let test = met (refused c) in
-    let e = refusal-printed _ _ (check (test .before) .check .ensures) (test .if1 .taken) in
-    at-front-text e (refused c .refuse .ensures)
+    let told = check (test .before) .check .ensures in
+    let e = refusal-printed _ _ told (test .if1 .taken) in
+    record { answer = told .answer; front = at-front-text e (refused c .refuse .ensures) }
 
 state-count-requires : tie.Need-state-count-requires
 state-count-requires c κs = chart-formed _ _ (check (c .before) .check .ensures) (c .if1 .left) .head .enough
@@ -69,8 +70,9 @@ returns-2 c =
     let test = passed counted in
     let n = counted .before .state-count .ensures .0 in
     let k = counted .node-count .ensures .0 in
-    let e = listing-printed _ _ (check (test .before) .check .ensures) (test .if1 .left) n k in
-    at-front-text e (listed c .list .ensures)
+    let told = check (test .before) .check .ensures in
+    let e = listing-printed _ _ told (test .if1 .left) n k in
+    record { answer = told .answer; front = at-front-text e (listed c .list .ensures) }
 
 pub report-spec : {M : Type 1} → statement M
 report-spec =

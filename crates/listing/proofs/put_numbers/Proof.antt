@@ -3,7 +3,7 @@ use borrow.Author.Needs.{needs}
 use denote.Ref.{now}
 use Rattle.listing.specs.Text.{twoNumbers}
 use Rattle.decimal.specs.Decimal.{decimal}
-use Rattle.append.proofs.Append.{appended-both, room-second, room-parts}
+use Rattle.append.proofs.Four.{Rooms, rooms, appended-four}
 use Rattle.listing.proofs.put_numbers.Statement.{statement}
 use Rattle.listing.proofs.put_numbers.Tie as tie
 
@@ -23,44 +23,40 @@ three c = c .before .before .before
 abbrev four : tie.After-slice-known5 → tie.After-put-number2
 four c = c .before .before
 
-put-word-requires : tie.Need-put-word-requires
+-- room for each part once those before it are there
+parts :
+    (s : tie.Start) → let a = s .args in
+    Rooms 0 (now (a .first)) (decimal (a .x)) (now (a .second)) (decimal (a .y)) (now (a .out))
 unfolding twoNumbers
-put-word-requires c κs =
-    let a = start c .args in
-    room-parts (now (a .first)) (decimal (a .x)) (now (a .second)) (decimal (a .y)) (start c .pre) .0
+parts s =
+    let a = s .args in
+    rooms (now (a .first)) (decimal (a .x)) (now (a .second)) (decimal (a .y)) (s .pre)
+
+put-word-requires : tie.Need-put-word-requires
+put-word-requires c κs = parts (start c) .one
 
 put-number-requires : tie.Need-put-number-requires
-unfolding twoNumbers
-put-number-requires c κs =
-    let s = start (one c .before) in
-    let a = s .args in
-    let rooms = room-parts (now (a .first)) (decimal (a .x)) (now (a .second)) (decimal (a .y)) (s .pre) in
-    room-second _ (one c .put-word .ensures) (rooms .1)
+put-number-requires c κs = parts (start (one c .before)) .two (one c .put-word .ensures)
 
 put-word-requires-2 : tie.Need-put-word-requires-2
-unfolding twoNumbers
 put-word-requires-2 c κs =
     let word = one (two c .before) in
-    let s = start (word .before) in
-    let a = s .args in
-    let rooms = room-parts (now (a .first)) (decimal (a .x)) (now (a .second)) (decimal (a .y)) (s .pre) in
-    room-second _ (appended-both (word .put-word .ensures) (two c .put-number .ensures)) (rooms .2)
+    parts (start (word .before)) .three (word .put-word .ensures) (two c .put-number .ensures)
 
 put-number-requires-2 : tie.Need-put-number-requires-2
-unfolding twoNumbers
 put-number-requires-2 c κs =
     let number = two (three c .before) in
     let word = one (number .before) in
-    let done = appended-both (word .put-word .ensures) (number .put-number .ensures) in
-    room-second _ (appended-both done (three c .put-word2 .ensures)) (start (word .before) .pre)
+    parts (start (word .before)) .four (word .put-word .ensures) (number .put-number .ensures)
+    (three c .put-word2 .ensures)
 
 returns : tie.Need-returns
 unfolding twoNumbers
 returns c =
     let second = three (four c .before) in
     let number = two (second .before) in
-    let done = appended-both (one (number .before) .put-word .ensures) (number .put-number .ensures) in
-    appended-both (appended-both done (second .put-word2 .ensures)) (four c .put-number2 .ensures)
+    appended-four (one (number .before) .put-word .ensures) (number .put-number .ensures) (second .put-word2 .ensures)
+    (four c .put-number2 .ensures)
 
 pub put-numbers-spec : {M : Type 1} → statement M
 put-numbers-spec =

@@ -8,7 +8,7 @@ use lib.ListN.{getD, take}
 use Rattle.append.specs.Piece.{Room}
 use Rattle.append.proofs.Append.{appended-both, room-first, room-second, at-front, at-front-text, at-front-counts}
 use Rattle.listing.specs.Text.{newline}
-use Rattle.text_call.proofs.Told.{refused-printed, line-printed, line-room}
+use Rattle.text_call.proofs.Told.{same, refused-printed, line-printed, line-room}
 use Rattle.text_call.proofs.report_text.Statement.{statement}
 use Rattle.text_call.proofs.report_text.Tie as tie
 
@@ -56,8 +56,9 @@ returns : tie.Need-returns
 returns c =
     let test = met (refused c) in
     let w = call (test .before) in
-    at-front-text (refused-printed _ (bytes w) (omega arith) (w .write-rule .ensures) (test .if1 .taken))
-    (refused c .refuse .ensures)
+    let told = w .write-rule .ensures in
+    let e = refused-printed _ (bytes w) (omega arith) told (test .if1 .taken) in
+    record { answer = same _ (bytes w) (omega arith) told; front = at-front-text e (refused c .refuse .ensures) }
 
 array-share-prefix-text : tie.Need-array-share-prefix-text
 array-share-prefix-text c = at-front-counts (call (c .before) .write-rule .ensures .front) .0
@@ -78,8 +79,13 @@ returns-2 c =
     let copy = copied (ended c .before) in
     let test = passed (copy .before) in
     let w = call (test .before) in
-    at-front-text (line-printed _ (bytes w) (omega arith) (w .write-rule .ensures) (test .if1 .left))
-    (at-front (room test) (appended-both (copy .put-word .ensures) (ended c .put .ensures)))
+    let told = w .write-rule .ensures in
+    let e = line-printed _ (bytes w) (omega arith) told (test .if1 .left) in
+    record {
+      answer = same _ (bytes w) (omega arith) told;
+      front =
+          at-front-text e (at-front (room test) (appended-both (copy .put-word .ensures) (ended c .put .ensures)));
+    }
 
 pub report-text-spec : {M : Type 1} → statement M
 report-text-spec =

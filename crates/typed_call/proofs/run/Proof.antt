@@ -9,7 +9,7 @@ abbrev answered : tie.After-text2 → tie.After-answer
 answered c = c .before .before
 
 abbrev text : tie.Then2 → tie.After-text2
-text c = c .before .before .before
+text c = c .before .before .before .before .before .before
 
 array-share-prefix-text : tie.Need-array-share-prefix-text
 array-share-prefix-text c = at-front-counts (answered c .answer .ensures .text-front) .0
@@ -29,4 +29,4 @@ run-spec =
     (tie.spec (λ c κs. search needs) (λ c κs. search needs) (λ c. search needs) (λ c. search needs)
     (λ c κs. search needs) (λ c. search needs) (λ c. search needs) (λ c. search needs) (λ c. search needs)
     (λ c κs. search needs) array-share-prefix-text slice-aggregate-write-all (λ c κs. search needs)
-    array-share-prefix-rule slice-aggregate-save (λ c κs. search needs) (λ c. search needs) (λ c. search needs))
+    (λ c. search needs) (λ c κs. search needs) array-share-prefix-rule slice-aggregate-save (λ c κs. search needs) (λ c. search needs) (λ c. search needs))

@@ -8,16 +8,18 @@ use denote.Ref.{now}
 use lib.ListN.{length, drop}
 use lib.Seq.{sets-eq}
 use Rattle.append.specs.Piece.{Room, Appended, AtFront}
-use Rattle.append.proofs.Append.{appended-both, room-second, room-parts, at-front}
+use Rattle.append.proofs.Append.{at-front}
+use Rattle.append.proofs.Four.{Rooms, rooms, appended-four}
 use Rattle.listing.specs.Text.{newline, refusedLine}
+use Rattle.listing.proofs.Sizes.{Ranged}
 use Rattle.typed_listing.specs.Refused.{shownText, caretLine, refusedText}
 use Rattle.typed_listing.proofs.Sizes.{refusal-room}
 use Rattle.typed_listing.proofs.refuse_text.Statement.{statement}
 use Rattle.typed_listing.proofs.refuse_text.Tie as tie
 
--- the stops, each from the one after it: the start, and where each part was written
-abbrev start : tie.After-refuse-arg → tie.Start
-start c = c .before .before .before
+-- the stops, each from the one after it: the outcome, and where each part was written
+abbrev known : tie.After-refuse-arg → tie.After-struct-known
+known c = c .before
 
 abbrev lined : tie.After-put-shown-arg → tie.After-refuse
 lined c = c .before .before .before
@@ -41,46 +43,50 @@ appended-front {piece = piece} {old} h p =
       bytes = p .bytes ∙ ap (λ k. piece ++ drop k old) e ∙ sym (sets-eq piece old 0 (h .fits));
     }
 
+abbrev start : tie.After-struct-known → tie.Start
+start c = c .before .before .before
+
 -- the parts, and room for each beginning of them
-module _ (s : tie.Start) where
+module _ (s : tie.After-struct-known) where
+  ranged : Ranged (start s .args .outcome)
+  ranged = record { number = search needs; place = search needs; entry = search needs }
+
   abbrev line : List ℕ
-  line = refusedLine (s .args .number) (s .args .place)
+  line = refusedLine (start s .args .outcome)
 
   abbrev text : List ℕ
-  text = shownText (now (s .args .text))
+  text = shownText (now (start s .args .text))
 
   abbrev caret : List ℕ
-  caret = caretLine (s .args .place)
+  caret = caretLine (start s .args .outcome .place)
 
   abbrev out : List ℕ
-  out = now (s .args .out)
+  out = now (start s .args .out)
 
   room : Room 0 (line ++ text ++ newline ++ caret) out
   unfolding refusedText
-  room = refusal-room _ _ _ _ (s .fits .number .fits) (s .fits .place .fits) (s .pre)
+  room = refusal-room _ _ _ ranged (start s .pre)
 
-  rooms : Room 0 line out × Room 0 (line ++ text) out × Room 0 (line ++ text ++ newline) out
-  rooms = room-parts line text newline caret room
+  parts : Rooms 0 line text newline caret out
+  parts = rooms line text newline caret room
 
 put-shown-requires : tie.Need-put-shown-requires
 put-shown-requires c κs =
-    let s = start (lined c .before) in
-    room-second _ (appended-front (rooms s .0) (lined c .refuse .ensures)) (rooms s .1)
+    let p = parts (known (lined c .before)) in
+    p .two (appended-front (p .one) (lined c .refuse .ensures))
 
 put-requires : tie.Need-put-requires
 put-requires c κs =
     let one = lined (shown c .before) in
-    let s = start (one .before) in
-    let done = appended-front (rooms s .0) (one .refuse .ensures) in
-    room-second newline (appended-both done (shown c .put-shown .ensures)) (rooms s .2)
+    let p = parts (known (one .before)) in
+    p .three (appended-front (p .one) (one .refuse .ensures)) (shown c .put-shown .ensures)
 
 put-caret-requires : tie.Need-put-caret-requires
 put-caret-requires c κs =
     let two = shown (ended c .before) in
     let one = lined (two .before) in
-    let s = start (one .before) in
-    let done = appended-both (appended-front (rooms s .0) (one .refuse .ensures)) (two .put-shown .ensures) in
-    room-second _ (appended-both done (ended c .put .ensures)) (room s)
+    let p = parts (known (one .before)) in
+    p .four (appended-front (p .one) (one .refuse .ensures)) (two .put-shown .ensures) (ended c .put .ensures)
 
 returns : tie.Need-returns
 unfolding refusedText
@@ -88,11 +94,12 @@ returns c =
     let three = ended (marked c .before) in
     let two = shown (three .before) in
     let one = lined (two .before) in
-    let s = start (one .before) in
-    let done = appended-both (appended-front (rooms s .0) (one .refuse .ensures)) (two .put-shown .ensures) in
-    at-front (room s) (appended-both (appended-both done (three .put .ensures)) (marked c .put-caret .ensures))
+    let s = known (one .before) in
+    at-front (room s)
+    (appended-four (appended-front (parts s .one) (one .refuse .ensures)) (two .put-shown .ensures)
+    (three .put .ensures) (marked c .put-caret .ensures))
 
 pub refuse-text-spec : {M : Type 1} → statement M
 refuse-text-spec =
     tie.close
-    (tie.spec (λ c κs. search needs) put-shown-requires put-requires put-caret-requires (λ c. search needs) returns)
+    (tie.spec (λ c. search needs) (λ c κs. search needs) put-shown-requires put-requires put-caret-requires (λ c. search needs) returns)

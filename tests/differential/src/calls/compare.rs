@@ -2,6 +2,7 @@
 
 use std::panic::{catch_unwind, AssertUnwindSafe};
 
+use crate::calls::outcome::Outcome;
 use crate::calls::told::Told;
 use crate::cases::case::{Case, Lent, Table};
 
@@ -24,31 +25,26 @@ pub enum Part {
 #[derive(Clone, Debug, PartialEq, Eq)]
 pub enum Answer {
     Check {
-        number: u32,
-        place: u32,
+        outcome: Outcome,
         marks: Vec<u8>,
         scratch: Vec<u32>,
         arrows: Vec<[u64; 4]>,
     },
     Count {
-        number: u32,
-        place: u32,
+        outcome: Outcome,
         marks: Vec<u8>,
         scratch: Vec<u32>,
     },
     Kind {
-        number: u32,
-        place: u32,
+        outcome: Outcome,
         kind: Kind,
     },
     Map {
-        number: u32,
-        place: u32,
+        outcome: Outcome,
     },
     Row(Part),
     Show {
-        number: u32,
-        place: u32,
+        outcome: Outcome,
         written: usize,
         marks: Vec<u8>,
         scratch: Vec<u32>,
@@ -56,8 +52,7 @@ pub enum Answer {
     },
     /// Of read and write. The bytes behind the output, which are not lent, stand at its end.
     Turned {
-        number: u32,
-        place: u32,
+        outcome: Outcome,
         written: usize,
         output: Vec<u8>,
     },
@@ -65,15 +60,15 @@ pub enum Answer {
 }
 
 impl Answer {
-    /// Number and place; a row has none.
-    pub fn outcome(&self) -> Option<(u32, u32)> {
+    /// A row has none.
+    pub fn outcome(&self) -> Option<Outcome> {
         match *self {
-            Answer::Check { number, place, .. } => Some((number, place)),
-            Answer::Count { number, place, .. } => Some((number, place)),
-            Answer::Kind { number, place, .. } => Some((number, place)),
-            Answer::Map { number, place } => Some((number, place)),
-            Answer::Show { number, place, .. } => Some((number, place)),
-            Answer::Turned { number, place, .. } => Some((number, place)),
+            Answer::Check { outcome, .. }
+            | Answer::Count { outcome, .. }
+            | Answer::Kind { outcome, .. }
+            | Answer::Map { outcome }
+            | Answer::Show { outcome, .. }
+            | Answer::Turned { outcome, .. } => Some(outcome),
             Answer::Row(_) | Answer::Stopped => None,
         }
     }
@@ -81,7 +76,7 @@ impl Answer {
     /// What an accepted text or rule was turned into.
     pub fn turned(&self) -> Option<&[u8]> {
         match self {
-            Answer::Turned { number: 0, place: 0, written, output } => output.get(..*written),
+            Answer::Turned { outcome: Outcome::ACCEPTED, written, output } => output.get(..*written),
             _ => None,
         }
     }
@@ -90,9 +85,9 @@ impl Answer {
     fn agrees(&self, other: &Answer) -> bool {
         match (self, other) {
             (
-                Answer::Show { number, place, written, marks, scratch, .. },
-                Answer::Show { number: n, place: p, written: w, marks: m, scratch: s, .. },
-            ) => (number, place, written, marks, scratch) == (n, p, w, m, s),
+                Answer::Show { outcome, written, marks, scratch, .. },
+                Answer::Show { outcome: o, written: w, marks: m, scratch: s, .. },
+            ) => (outcome, written, marks, scratch) == (o, w, m, s),
             _ => self == other,
         }
     }
@@ -120,10 +115,10 @@ pub fn with_behind(output: &Lent) -> Vec<u8> {
     Lent::new(output.length + BEHIND, output.fill).bytes()
 }
 
-fn turned(output: &Lent, call: impl FnOnce(&mut [u8]) -> (u32, u32, usize)) -> Answer {
+fn turned(output: &Lent, call: impl FnOnce(&mut [u8]) -> (Outcome, usize)) -> Answer {
     let mut bytes = with_behind(output);
-    let (number, place, written) = call(&mut bytes[..output.length]);
-    Answer::Turned { number, place, written, output: bytes }
+    let (outcome, written) = call(&mut bytes[..output.length]);
+    Answer::Turned { outcome, written, output: bytes }
 }
 
 /// The same calls of either program, each with its own types.
@@ -141,7 +136,7 @@ macro_rules! program {
                     program::Kind::Both => Kind::Both,
                     program::Kind::Neither => Kind::Neither,
                 };
-                Answer::Kind { number: answer.outcome.number, place: answer.outcome.place, kind }
+                Answer::Kind { outcome: answer.outcome.into(), kind }
             }
 
             fn arrow(chart: &[u8], number: usize) -> Option<[u64; 4]> {
@@ -169,26 +164,24 @@ macro_rules! program {
                 match case {
                     Case::Check { chart, rule, marks, scratch } => {
                         let (mut marks, mut scratch) = (marks.bytes(), scratch.numbers());
-                        let outcome = program::check(chart, rule, &mut marks, &mut scratch);
-                        let (number, place) = (outcome.number, outcome.place);
-                        Answer::Check { number, place, marks, scratch, arrows: arrows(chart) }
+                        let outcome = program::check(chart, rule, &mut marks, &mut scratch).into();
+                        Answer::Check { outcome, marks, scratch, arrows: arrows(chart) }
                     }
                     Case::Count { chart, rule, marks, scratch } => {
                         let (mut marks, mut scratch) = (marks.bytes(), scratch.numbers());
-                        let outcome = program::count(chart, rule, &mut marks, &mut scratch);
-                        Answer::Count { number: outcome.number, place: outcome.place, marks, scratch }
+                        let outcome = program::count(chart, rule, &mut marks, &mut scratch).into();
+                        Answer::Count { outcome, marks, scratch }
                     }
                     Case::Kind { rule } => kind_of(rule),
                     Case::Map { detail, overview, map } => {
-                        let outcome = program::map_check(detail, overview, map);
-                        Answer::Map { number: outcome.number, place: outcome.place }
+                        Answer::Map { outcome: program::map_check(detail, overview, map).into() }
                     }
                     Case::Row { overview, detail, choice, n, t } => row((overview, detail), *choice, *n, *t),
                     Case::Show { chart, rule, marks, scratch, node, state, output } => {
                         let (mut marks, mut scratch, mut output) = (marks.bytes(), scratch.numbers(), output.bytes());
                         let answer = program::show(chart, rule, &mut marks, &mut scratch, *node, *state, &mut output);
-                        let (number, place, written) = answer.told();
-                        Answer::Show { number, place, written, marks, scratch, output }
+                        let (outcome, written) = answer.told();
+                        Answer::Show { outcome, written, marks, scratch, output }
                     }
                     Case::Read { text, output } => turned(output, |lent| program::read_rule(text, lent).told()),
                     Case::Write { rule, output } => turned(output, |lent| program::write_rule(rule, lent).told()),

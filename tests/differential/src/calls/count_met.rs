@@ -239,7 +239,7 @@ impl Until<'_> {
 
 /// Those that a count met.
 pub fn kinds(case: &Case, answer: &Answer) -> Vec<&'static str> {
-    let (Case::Count { chart, rule, marks, scratch }, Answer::Count { number, marks: written, .. }) = (case, answer)
+    let (Case::Count { chart, rule, marks, scratch }, Answer::Count { outcome, marks: written, .. }) = (case, answer)
     else {
         return Vec::new();
     };
@@ -248,7 +248,7 @@ pub fn kinds(case: &Case, answer: &Answer) -> Vec<&'static str> {
     };
     let (marks, scratch) = (marks.length, scratch.length);
     let one = |is: bool, kind| if is { vec![kind] } else { Vec::new() };
-    match number {
+    match outcome.number {
         0 => counted.accepted(marks, scratch, &written[..counted.marks_wanted().min(marks)]),
         16 => one(counted.above().next().is_some(), "16 before 63"),
         17 => one(marks + 1 == counted.marks_wanted(), "marks of k × n − 1 bytes"),

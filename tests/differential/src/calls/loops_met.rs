@@ -2,12 +2,12 @@
 
 use oracle::{has_leavable_loop_of_0_to_0, has_loop_of_fewest_0};
 
-use crate::cases::case::{Case, CALLS};
+use crate::cases::case::{Case, CALLS, CHECK, COUNT, MAP, SHOW};
 
 const LOOPS: [&str; 2] = ["a loop of arrows whose fewest are all 0", "a loop of 0 to 0 arrows that can be left"];
 
 /// Places in `CALLS` of those that are handed charts and judge them whole.
-const JUDGING: [usize; 4] = [0, 5, 4, 2];
+const JUDGING: [usize; 4] = [CHECK, COUNT, SHOW, MAP];
 
 /// By loop and call the accepted charts that had it.
 pub struct LoopsMet([[u64; CALLS.len()]; LOOPS.len()]);

@@ -1,6 +1,7 @@
 //! What the paper says of every answer, whatever the case: both programs are held to it.
 
 use crate::calls::compare::{Answer, Kind};
+use crate::calls::outcome::Outcome;
 use crate::calls::text_promises;
 use crate::cases::case::{Case, Lent};
 
@@ -62,9 +63,9 @@ fn lowest_above(rule: &[u8]) -> Option<u32> {
 }
 
 /// Past 16 a bound above 255 is told with its node, and nothing else is.
-fn bound_told(number: u32, place: u32, rule: &[u8]) -> bool {
-    match number {
-        63 => lowest_above(rule) == Some(place),
+fn bound_told(outcome: Outcome, rule: &[u8]) -> bool {
+    match outcome.number {
+        63 => lowest_above(rule) == Some(outcome.place),
         0 | 17..=19 => lowest_above(rule).is_none(),
         _ => true,
     }
@@ -90,33 +91,32 @@ fn buffers(left: (usize, usize), marks: (&Lent, &[u8]), scratch: (&Lent, &[u32])
 
 /// What is broken, if anything is.
 pub fn broken(case: &Case, answer: &Answer) -> Option<&'static str> {
-    if let Some((0, place)) = answer.outcome() {
-        if place != 0 {
-            return Some("success has a place");
-        }
+    if answer.outcome().is_some_and(|outcome| outcome.number == 0 && outcome != Outcome::ACCEPTED) {
+        return Some("success has a place or an entry");
     }
     match (case, answer) {
-        (Case::Check { chart, rule, marks, scratch }, Answer::Check { number, marks: m, scratch: s, .. }) => {
-            buffers(left_by_check(*number, chart, rule), (marks, m), (scratch, s))
+        (Case::Check { chart, rule, marks, scratch }, Answer::Check { outcome, marks: m, scratch: s, .. }) => {
+            buffers(left_by_check(outcome.number, chart, rule), (marks, m), (scratch, s))
         }
-        (Case::Count { chart, rule, marks, scratch }, Answer::Count { number, place, marks: m, scratch: s }) => {
-            let told = bound_told(*number, *place, rule);
-            buffers(left_by_count(*number, chart, rule), (marks, m), (scratch, s))
+        (Case::Count { chart, rule, marks, scratch }, Answer::Count { outcome, marks: m, scratch: s }) => {
+            let told = bound_told(*outcome, rule);
+            buffers(left_by_count(outcome.number, chart, rule), (marks, m), (scratch, s))
                 .or((!told).then_some("a bound above 255 not told, or not its node"))
         }
         (
             Case::Show { chart, rule, marks, scratch, state, output, .. },
-            Answer::Show { number, place, written, marks: m, scratch: s, output: o },
+            Answer::Show { outcome, written, marks: m, scratch: s, output: o },
         ) => {
-            if *number >= 60 && *place != 0 {
+            let number = outcome.number;
+            if number >= 60 && outcome.place != 0 {
                 return Some("60 to 62 have a place");
             }
-            let run = output_kept(*number, *state, *written, &output.bytes(), o);
-            buffers(left_by_show(*number, chart, rule), (marks, m), (scratch, s))
+            let run = output_kept(number, *state, *written, &output.bytes(), o);
+            buffers(left_by_show(number, chart, rule), (marks, m), (scratch, s))
                 .or((!run).then_some("no run from the state, or output not kept"))
         }
-        (_, Answer::Kind { number, kind, .. }) => {
-            (*number != 0 && *kind != Kind::Neither).then_some("a refused rule has a kind")
+        (_, Answer::Kind { outcome, kind }) => {
+            (outcome.number != 0 && *kind != Kind::Neither).then_some("a refused rule has a kind")
         }
         _ => text_promises::broken(case, answer),
     }

@@ -99,12 +99,12 @@ fn too_much(text: &[u8], lent: usize) -> Vec<&'static str> {
 
 /// Those that a read met.
 pub fn kinds(case: &Case, answer: &Answer) -> Vec<&'static str> {
-    let (Case::Read { text, output: lent }, Answer::Turned { number, place, written, output }) = (case, answer) else {
+    let (Case::Read { text, output: lent }, Answer::Turned { outcome, written, output }) = (case, answer) else {
         return Vec::new();
     };
-    match number {
+    match outcome.number {
         0 => rule_met::accepted(&rule::nodes(&output[..*written]), text.len(), lent.length, *written),
-        64 => stopped(text, *place as usize),
+        64 => stopped(text, outcome.place as usize),
         65 => too_much(text, lent.length),
         66 => rule_met::output_short(lent.length, 7 + 8 * begun(text)),
         _ => Vec::new(),

@@ -31,20 +31,20 @@ pub fn whole(case: &Case, answers: &Both, what: Option<&str>) {
 
 fn brief(answer: &Answer) -> String {
     match answer {
-        Answer::Check { number, place, marks, scratch, arrows } => {
+        Answer::Check { outcome, marks, scratch, arrows } => {
             let (m, s, a) = (digest(marks), digest(scratch), digest(arrows));
-            format!("number {number}, place {place}, marks {m}, scratch {s}, arrows {a}")
+            format!("{outcome}, marks {m}, scratch {s}, arrows {a}")
         }
-        Answer::Count { number, place, marks, scratch } => {
+        Answer::Count { outcome, marks, scratch } => {
             let (m, s) = (digest(marks), digest(scratch));
-            format!("number {number}, place {place}, marks {m}, scratch {s}")
+            format!("{outcome}, marks {m}, scratch {s}")
         }
-        Answer::Show { number, place, written, marks, scratch, output } => {
+        Answer::Show { outcome, written, marks, scratch, output } => {
             let (m, s, o) = (digest(marks), digest(scratch), digest(output));
-            format!("number {number}, place {place}, written {written}, marks {m}, scratch {s}, output {o}")
+            format!("{outcome}, written {written}, marks {m}, scratch {s}, output {o}")
         }
-        Answer::Turned { number, place, written, output } => {
-            format!("number {number}, place {place}, written {written}, output {}", digest(output))
+        Answer::Turned { outcome, written, output } => {
+            format!("{outcome}, written {written}, output {}", digest(output))
         }
         other => format!("{other:?}"),
     }

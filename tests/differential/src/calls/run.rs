@@ -9,6 +9,7 @@ use crate::calls::report::{self, say};
 use crate::calls::show_judge;
 use crate::calls::summary::{Source, Summary};
 use crate::calls::there_and_back;
+use crate::calls::words::{self, Words};
 use crate::cases::case::Case;
 use crate::cases::last::{Last, Which};
 use crate::cases::short;
@@ -32,8 +33,8 @@ use crate::random::typed;
 /// The run stops after so many differences.
 pub const SHOWN: u64 = 5;
 
-/// The large ones come last, since they take longest.
-fn named() -> Vec<Named> {
+/// All but the large ones.
+pub fn named_but_large() -> Vec<Named> {
     let mut list = Vec::new();
     items::all(&mut list);
     charts::all(&mut list);
@@ -47,6 +48,12 @@ fn named() -> Vec<Named> {
     texts::all(&mut list);
     typed_limits::all(&mut list);
     written::all(&mut list);
+    list
+}
+
+/// The large ones come last, since they take longest.
+fn named() -> Vec<Named> {
+    let mut list = named_but_large();
     large::all(&mut list);
     list
 }
@@ -147,7 +154,19 @@ impl Run {
     }
 }
 
-/// Runs all cases; true if none differs and every number was met.
+/// All that is wrong with what was met, where nothing differs.
+fn shortfalls(summary: &Summary) -> Vec<String> {
+    let missing = summary.missing().into_iter().map(|what| format!("NEVER MET: {what}"));
+    let strange = summary.numbers.strange().into_iter().map(|what| format!("NOT OF THE PAPERS: {what}"));
+    let words = words::compare(&summary.numbers.met(), Words::of);
+    if let Ok(numbers) = &words {
+        say(&format!("words: {numbers} numbers, each met and each told"));
+    }
+    let words = words.err().into_iter().flatten().map(|what| format!("WORDS: {what}"));
+    missing.chain(strange).chain(words).collect()
+}
+
+/// Runs all cases; true if none differs, and every number was met and is told in words.
 pub fn all(last: Last, seed: u64, count: u64, texts: u64) -> bool {
     let began = Instant::now();
     let mut run = Run { summary: Summary::new(), differ: 0, last };
@@ -159,13 +178,11 @@ pub fn all(last: Last, seed: u64, count: u64, texts: u64) -> bool {
         say(&format!("stopped after {SHOWN} differences"));
     }
     say(run.summary.text().trim_end());
-    let missing = if run.differ == 0 { run.summary.missing() } else { Vec::new() };
-    for what in &missing {
-        say(&format!("NEVER MET: {what}"));
-    }
+    let shortfalls = if run.differ == 0 { shortfalls(&run.summary) } else { Vec::new() };
+    shortfalls.iter().for_each(|what| say(what));
     say(&format!("seed {seed}, {:.1} s", began.elapsed().as_secs_f64()));
     say(&format!("differential: {} cases, {} differ", run.summary.total(), run.differ));
-    run.differ == 0 && missing.is_empty()
+    run.differ == 0 && shortfalls.is_empty()
 }
 
 /// Runs the case of that number alone.

@@ -1,6 +1,7 @@
 //! What all the short texts came to: accepted, or refused with 64 at each byte.
 
 use crate::calls::compare::Answer;
+use crate::calls::outcome::Outcome;
 use crate::cases::short::COUNT;
 
 /// Up to the length of the longest.
@@ -17,8 +18,10 @@ impl ShortMet {
     pub fn add(&mut self, answer: &Answer) {
         self.texts += 1;
         match answer.outcome() {
-            Some((0, 0)) => self.accepted += 1,
-            Some((64, place)) => self.refused.get_mut(place as usize).into_iter().for_each(|count| *count += 1),
+            Some(Outcome::ACCEPTED) => self.accepted += 1,
+            Some(Outcome { number: 64, place, entry: 3 }) => {
+                self.refused.get_mut(place as usize).into_iter().for_each(|count| *count += 1)
+            }
             _ => {}
         }
     }
@@ -53,7 +56,12 @@ impl ShortMet {
 mod tests {
     use super::ShortMet;
     use crate::calls::compare::{oracle, Answer};
+    use crate::calls::outcome::Outcome;
     use crate::cases::short::{case, COUNT};
+
+    fn refused(number: u32, entry: u32) -> Answer {
+        Answer::Turned { outcome: Outcome { number, place: 0, entry }, written: 0, output: vec![] }
+    }
 
     #[test]
     fn all_are_to_come_to_something() {
@@ -63,14 +71,16 @@ mod tests {
         assert!(met.missing().is_empty(), "{}", met.text());
         // true, and one or two digits behind up to two nots.
         assert_eq!(met.accepted, 1 + (10 + 6) + (10 + 6) + 10);
-        met.add(&Answer::Turned { number: 64, place: 0, written: 0, output: vec![] });
+        met.add(&refused(64, 3));
         assert_eq!(met.missing().len(), 1);
     }
 
     #[test]
-    fn another_number_is_missed() {
-        let mut met = ShortMet { texts: COUNT - 1, accepted: 43, refused: [1, 1, 1, 1, COUNT - 48] };
-        met.add(&Answer::Turned { number: 65, place: 0, written: 0, output: vec![] });
-        assert_eq!(met.missing().len(), 1);
+    fn another_number_or_entry_is_missed() {
+        for (number, entry, missing) in [(64, 3, 0), (65, 3, 1), (64, 5, 1)] {
+            let mut met = ShortMet { texts: COUNT - 1, accepted: 43, refused: [1, 1, 1, 1, COUNT - 48] };
+            met.add(&refused(number, entry));
+            assert_eq!(met.missing().len(), missing, "{number} {entry}");
+        }
     }
 }

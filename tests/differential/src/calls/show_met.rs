@@ -126,20 +126,20 @@ pub fn kinds(case: &Case, answer: &Answer) -> Vec<&'static str> {
     let Case::Show { chart, rule, scratch, node, state, output, .. } = case else {
         return Vec::new();
     };
-    let Answer::Show { number, written, marks, output: shown, .. } = answer else {
+    let Answer::Show { outcome, written, marks, output: shown, .. } = answer else {
         return Vec::new();
     };
     let n = chart.get(5..7).map_or(0, |two| usize::from(u16::from_be_bytes([two[0], two[1]])));
-    if *number == 18 && scratch.length + 1 == 4 * n {
+    if outcome.number == 18 && scratch.length + 1 == 4 * n {
         return vec!["scratch of 4n − 1 numbers"];
     }
-    if !matches!(number, 0 | 60..=62) {
+    if !matches!(outcome.number, 0 | 60..=62) {
         return Vec::new();
     }
     let found = rule.get(7..).and_then(|nodes| nodes.chunks_exact(8).nth(*node));
     let until = found.map(|x| (x[0], x[1], usize::from(x[5]), u64::from(u16::from_be_bytes([x[6], x[7]]))));
     let asked = Asked { n, node: *node, state: *state, until, marks };
-    match number {
+    match outcome.number {
         0 => {
             let mut met = asked.shown(&shown[..*written]);
             met.extend((*written == output.length).then_some("output just enough"));

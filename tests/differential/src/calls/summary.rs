@@ -1,20 +1,15 @@
-//! What was met: numbers per call, marks per operation, kinds of rule, what the shows, counts, reads and writes met,
-//! and which loops the accepted charts had.
+//! What was met: numbers and entries per call, marks per operation, kinds of rule, what the shows, counts, reads and
+//! writes met, and which loops the accepted charts had.
 
 use crate::calls::compare::{Answer, Kind, Part};
 use crate::calls::loops_met::LoopsMet;
 use crate::calls::met::Met;
+use crate::calls::numbers_met::{NumbersMet, NUMBERED};
+use crate::calls::outcome::Outcome;
 use crate::calls::short_met::ShortMet;
 use crate::calls::{count_met, read_met, show_met, write_met};
-use crate::cases::case::{Case, CALLS};
+use crate::cases::case::{Case, CALLS, COUNT, READ, ROW, SHOW, WRITE};
 
-const NUMBERS: usize = 67;
-/// Places in `CALLS`: the calls that answer a number, and some of these by name.
-const NUMBERED: [usize; 7] = [0, COUNT, 1, 2, SHOW, READ, WRITE];
-const SHOW: usize = 4;
-const COUNT: usize = 5;
-const READ: usize = 6;
-const WRITE: usize = 7;
 const FORMS: [&str; 9] = ["true", "label", "not", "and", "or", "E at most", "E at least", "A at most", "A at least"];
 const KINDS: [Kind; 4] = [Kind::AllRuns, Kind::SomeRun, Kind::Both, Kind::Neither];
 
@@ -38,8 +33,7 @@ pub struct Summary {
     cases: [u64; CALLS.len()],
     random: u64,
     typed: u64,
-    /// Per call and number: named cases, random cases.
-    numbers: Vec<[[u64; 2]; CALLS.len()]>,
+    pub numbers: NumbersMet,
     /// Per form of a node: marks that are 1, marks in all.
     marks: [[u64; 2]; 9],
     kinds: [u64; 4],
@@ -51,20 +45,6 @@ pub struct Summary {
     writes: Met,
     loops: LoopsMet,
     pub short: ShortMet,
-}
-
-/// The numbers that a call can answer with.
-fn possible(call: usize, number: usize) -> bool {
-    match call {
-        0 => number <= 19,
-        1 => number == 0 || (10..=16).contains(&number),
-        2 => number <= 9 || (19..=23).contains(&number) || (41..=49).contains(&number) || number == 59,
-        SHOW => number <= 19 || (60..=62).contains(&number),
-        COUNT => number <= 19 || number == 63,
-        READ => number == 0 || (64..=66).contains(&number),
-        WRITE => number == 0 || (10..=16).contains(&number) || number == 66,
-        _ => false,
-    }
 }
 
 fn form(operation: u8, kind: u8) -> usize {
@@ -83,7 +63,7 @@ impl Summary {
             cases: [0; CALLS.len()],
             random: 0,
             typed: 0,
-            numbers: vec![[[0; 2]; CALLS.len()]; NUMBERS],
+            numbers: NumbersMet::new(),
             marks: [[0; 2]; 9],
             kinds: [0; 4],
             parts: [0; 2],
@@ -105,19 +85,17 @@ impl Summary {
         self.cases[call] += 1;
         self.random += u64::from(source == Source::Random);
         self.typed += u64::from(source == Source::Typed);
-        if let Some((number, _)) = answer.outcome() {
-            if let Some(row) = self.numbers.get_mut(number as usize) {
-                row[call][random as usize] += 1;
-            }
-            if random && number == 0 {
+        if let Some(outcome) = answer.outcome() {
+            self.numbers.add(call, outcome, random);
+            if random && outcome == Outcome::ACCEPTED {
                 self.loops.add(case);
             }
         }
         match (case, answer) {
-            (Case::Check { chart, rule, .. }, Answer::Check { number: 0, marks, .. }) => {
+            (Case::Check { chart, rule, .. }, Answer::Check { outcome: Outcome::ACCEPTED, marks, .. }) => {
                 self.add_marks(chart, rule, marks)
             }
-            (_, Answer::Kind { number: 0, kind, .. }) => self.kinds[*kind as usize] += 1,
+            (_, Answer::Kind { outcome: Outcome::ACCEPTED, kind }) => self.kinds[*kind as usize] += 1,
             (_, Answer::Row(part)) => self.parts[(*part != Part::Empty) as usize] += 1,
             (Case::Show { .. }, _) if random => self.shows.add(&show_met::kinds(case, answer)),
             (Case::Count { .. }, _) if random => self.counts.add(&count_met::kinds(case, answer)),
@@ -148,10 +126,10 @@ impl Summary {
         random >= ENOUGH
     }
 
-    /// Each number that a call never met, each form whose marks were all alike, what no show, count, read or write met,
-    /// loops that no accepted chart had, and what the short texts never came to.
+    /// Each number with an entry that a call never met, each form whose marks were all alike, what no show, count, read
+    /// or write met, loops that no accepted chart had, and what the short texts never came to.
     pub fn missing(&self) -> Vec<String> {
-        let mut missing = self.missing_numbers();
+        let mut missing = self.numbers.missing(|call| self.is_strict(call));
         for (kind, _) in KINDS.iter().zip(self.kinds).filter(|(_, met)| *met == 0) {
             missing.push(format!("kind {kind:?}"));
         }
@@ -168,19 +146,6 @@ impl Summary {
         missing
     }
 
-    fn missing_numbers(&self) -> Vec<String> {
-        let mut missing = Vec::new();
-        for (number, row) in self.numbers.iter().enumerate() {
-            for call in NUMBERED.into_iter().filter(|&call| possible(call, number)) {
-                let [named, random] = row[call];
-                if named + random == 0 || (self.is_strict(call) && random == 0) {
-                    missing.push(format!("number {number} of {}", CALLS[call]));
-                }
-            }
-        }
-        missing
-    }
-
     fn missing_marks(&self) -> Vec<String> {
         let alike = |(_, [ones, all]): &(&&str, [u64; 2])| *ones == 0 || ones == all;
         let forms = FORMS.iter().zip(self.marks).skip(1).filter(alike);
@@ -189,30 +154,8 @@ impl Summary {
 
     /// What too few random cases are.
     fn rare(&self) -> Vec<String> {
-        let random = |call: &usize| self.numbers.iter().map(|row| row[*call][1]).sum::<u64>();
-        let rare = [SHOW, COUNT].into_iter().filter(|call| random(call) * SHARE < self.random);
+        let rare = [SHOW, COUNT].into_iter().filter(|&call| self.numbers.random(call) * SHARE < self.random);
         rare.map(|call| format!("a {} in {SHARE} random cases", CALLS[call])).collect()
-    }
-
-    fn coverage(&self) -> String {
-        let heads = NUMBERED.map(|call| format!("{:>14}", CALLS[call])).join("");
-        let mut text = format!("number  {heads}  named + random\n");
-        for (number, row) in self.numbers.iter().enumerate() {
-            if !NUMBERED.iter().any(|&call| possible(call, number)) {
-                continue;
-            }
-            let cell = |call: usize| {
-                let [named, random] = row[call];
-                if possible(call, number) {
-                    format!("{named} + {random}")
-                } else {
-                    "-".into()
-                }
-            };
-            let cells = NUMBERED.map(|call| format!("{:>14}", cell(call))).join("");
-            text += &format!("{number:>6}  {cells}\n");
-        }
-        text
     }
 
     fn shares(&self) -> String {
@@ -224,13 +167,13 @@ impl Summary {
     }
 
     pub fn text(&self) -> String {
-        let mut text = self.coverage() + &self.shares();
+        let mut text = self.numbers.text() + &self.shares();
         for call in NUMBERED {
-            let (accepted, all) = (self.numbers[0][call].iter().sum(), self.cases[call]);
+            let (accepted, all) = (self.numbers.accepted(call), self.cases[call]);
             text += &format!("{:>12}  {all} cases, {:.1} % accepted\n", CALLS[call], share(accepted, all));
         }
         let [empty, found] = self.parts;
-        text += &format!("{:>12}  {} cases, {found} parts found, {empty} empty\n", "row", self.cases[3]);
+        text += &format!("{:>12}  {} cases, {found} parts found, {empty} empty\n", "row", self.cases[ROW]);
         for (kind, met) in KINDS.iter().zip(self.kinds) {
             text += &format!("{:>12}  met {met} times\n", format!("{kind:?}"));
         }
@@ -258,14 +201,16 @@ mod tests {
     fn a_number_is_missing_until_it_is_met() {
         let mut summary = Summary::new();
         let missing = |summary: &Summary, what: &str| summary.missing().iter().any(|missing| missing == what);
-        let numbers = ["0 of read", "64 of read", "65 of read", "66 of read", "0 of write", "66 of write"];
-        assert!(numbers.iter().all(|number| missing(&summary, &format!("number {number}"))));
+        let numbers =
+            [(0, 0, "read"), (64, 3, "read"), (65, 3, "read"), (66, 5, "read"), (0, 0, "write"), (66, 5, "write")];
+        let numbers = numbers.map(|(number, entry, call)| format!("number {number} with entry {entry} of {call}"));
+        assert!(numbers.iter().all(|number| missing(&summary, number)));
         let mut list = List::new();
         texts::all(&mut list);
         typed_limits::all(&mut list);
         written::all(&mut list);
         list.iter().for_each(|test| summary.add(&test.case, &oracle::run(&test.case), Source::Named));
-        assert!(!numbers.iter().any(|number| missing(&summary, &format!("number {number}"))));
-        assert!(missing(&summary, "number 10 of write") && missing(&summary, "accepted short text"));
+        assert!(!numbers.iter().any(|number| missing(&summary, number)));
+        assert!(missing(&summary, "number 10 with entry 3 of write") && missing(&summary, "accepted short text"));
     }
 }

@@ -1,6 +1,7 @@
 //! What the paper says of every answer of read and write, whatever is handed to them: both programs are held to it.
 
 use crate::calls::compare::{with_behind, Answer};
+use crate::calls::outcome::Outcome;
 use crate::cases::case::{Case, Lent};
 
 /// The most bytes of a text and nodes of a rule, and the bytes of the longest text of so many nodes.
@@ -27,10 +28,10 @@ fn is_framed(rule: &[u8]) -> bool {
 }
 
 /// A place only of 64, and that one no further than where the text ends.
-fn place_told(number: u32, place: u32, text: &[u8]) -> bool {
-    match number {
-        64 => text.len() <= MOST_BYTES && place as usize <= text.len(),
-        _ => place == 0,
+fn place_told(outcome: Outcome, text: &[u8]) -> bool {
+    match outcome.number {
+        64 => text.len() <= MOST_BYTES && outcome.place as usize <= text.len(),
+        _ => outcome.place == 0,
     }
 }
 
@@ -39,38 +40,38 @@ fn is_of_text(byte: &u8) -> bool {
     b"trueLEAU!()&|<>= 0123456789".contains(byte)
 }
 
-fn read_broken(text: &[u8], number: u32, place: u32, rule: &[u8]) -> Option<&'static str> {
-    if !place_told(number, place, text) {
+fn read_broken(text: &[u8], outcome: Outcome, rule: &[u8]) -> Option<&'static str> {
+    if !place_told(outcome, text) {
         return Some("a place that is none");
     }
-    if number == 0 && !is_framed(rule) {
+    if outcome.number == 0 && !is_framed(rule) {
         return Some("no rule of 7 + 8k bytes");
     }
-    (number == 0 && text.len() > LONGEST).then_some("a text that is too long for 64 nodes accepted")
+    (outcome.number == 0 && text.len() > LONGEST).then_some("a text that is too long for 64 nodes accepted")
 }
 
-fn write_broken(number: u32, place: u32, text: &[u8]) -> Option<&'static str> {
-    if number == 66 && place != 0 {
+fn write_broken(outcome: Outcome, text: &[u8]) -> Option<&'static str> {
+    if outcome.number == 66 && outcome.place != 0 {
         return Some("66 has a place");
     }
     let right = !text.is_empty() && text.len() <= LONGEST && text.iter().all(is_of_text);
-    (number == 0 && !right).then_some("no text of the grammar's bytes")
+    (outcome.number == 0 && !right).then_some("no text of the grammar's bytes")
 }
 
 /// What is broken, if anything is.
 pub fn broken(case: &Case, answer: &Answer) -> Option<&'static str> {
-    let Answer::Turned { number, place, written, output } = answer else {
+    let Answer::Turned { outcome, written, output } = answer else {
         return None;
     };
     let (Case::Read { output: lent, .. } | Case::Write { output: lent, .. }) = case else {
         return Some("another call's answer");
     };
-    let Some(front) = front(lent, *number, *written, output) else {
+    let Some(front) = front(lent, outcome.number, *written, output) else {
         return Some("output not kept, or bytes written on a refusal");
     };
     match case {
-        Case::Read { text, .. } => read_broken(text, *number, *place, front),
-        _ => write_broken(*number, *place, front),
+        Case::Read { text, .. } => read_broken(text, *outcome, front),
+        _ => write_broken(*outcome, front),
     }
 }
 
@@ -78,15 +79,17 @@ pub fn broken(case: &Case, answer: &Answer) -> Option<&'static str> {
 mod tests {
     use super::broken;
     use crate::calls::compare::{with_behind, Answer};
+    use crate::calls::outcome::Outcome;
     use crate::cases::case::{Case, Lent};
 
     const LENT: Lent = Lent { length: 16, fill: 3 };
 
     /// Whether an answer with these bytes at the front keeps the promises.
-    fn kept(case: &Case, (number, place): (u32, u32), front: &[u8], written: usize) -> bool {
+    fn kept(case: &Case, (number, place, entry): (u32, u32, u32), front: &[u8], written: usize) -> bool {
         let mut output = with_behind(&LENT);
         output[..front.len()].copy_from_slice(front);
-        broken(case, &Answer::Turned { number, place, written, output }).is_none()
+        let outcome = Outcome { number, place, entry };
+        broken(case, &Answer::Turned { outcome, written, output }).is_none()
     }
 
     #[test]
@@ -94,28 +97,33 @@ mod tests {
         let case = Case::Read { text: b"true".to_vec(), output: LENT };
         let rule = [1, 0, 0, 0, 15, 0, 1, 0, 0, 0, 0, 0, 0, 0, 0];
         let read = |outcome, front: &[u8], written| kept(&case, outcome, front, written);
-        assert!(read((0, 0), &rule, 15) && read((64, 4), &[], 0) && read((65, 0), &[], 0) && read((66, 0), &[], 0));
-        assert!(!read((0, 0), &rule, 14) && !read((0, 0), &rule, 16) && !read((0, 0), &rule[..14], 14));
-        assert!(!read((64, 5), &[], 0) && !read((65, 1), &[], 0) && !read((66, 4), &[], 0));
-        assert!(!read((64, 4), &rule[..1], 0) && !read((66, 0), &rule, 15));
+        assert!(
+            read((0, 0, 0), &rule, 15)
+                && read((64, 4, 3), &[], 0)
+                && read((65, 0, 3), &[], 0)
+                && read((66, 0, 5), &[], 0)
+        );
+        assert!(!read((0, 0, 0), &rule, 14) && !read((0, 0, 0), &rule, 16) && !read((0, 0, 0), &rule[..14], 14));
+        assert!(!read((64, 5, 3), &[], 0) && !read((65, 1, 3), &[], 0) && !read((66, 4, 5), &[], 0));
+        assert!(!read((64, 4, 3), &rule[..1], 0) && !read((66, 0, 5), &rule, 15));
         // Behind the output.
-        assert!(!read((0, 0), &[&rule[..], &[0; 2]].concat(), 15) && !read((64, 0), &[0; 17], 0));
+        assert!(!read((0, 0, 0), &[&rule[..], &[0; 2]].concat(), 15) && !read((64, 0, 3), &[0; 17], 0));
     }
 
     #[test]
     fn of_write() {
         let case = Case::Write { rule: vec![], output: LENT };
         let write = |outcome, front: &[u8], written| kept(&case, outcome, front, written);
-        assert!(write((0, 0), b"true", 4) && write((16, 3), b"", 0) && write((66, 0), b"", 0));
-        assert!(!write((0, 0), b"true", 3) && !write((0, 0), b"", 0) && !write((0, 0), b"True", 4));
-        assert!(!write((66, 1), b"", 0) && !write((66, 0), b"t", 0) && !write((10, 0), b"true", 4));
+        assert!(write((0, 0, 0), b"true", 4) && write((16, 3, 3), b"", 0) && write((66, 0, 5), b"", 0));
+        assert!(!write((0, 0, 0), b"true", 3) && !write((0, 0, 0), b"", 0) && !write((0, 0, 0), b"True", 4));
+        assert!(!write((66, 1, 5), b"", 0) && !write((66, 0, 5), b"t", 0) && !write((10, 0, 3), b"true", 4));
     }
 
     #[test]
     fn a_text_above_532_bytes_is_never_a_rule() {
         let rule = [1, 0, 0, 0, 15, 0, 1, 0, 0, 0, 0, 0, 0, 0, 0];
         let of = |length| Case::Read { text: vec![b'!'; length], output: LENT };
-        assert!(kept(&of(532), (0, 0), &rule, 15) && !kept(&of(533), (0, 0), &rule, 15));
-        assert!(kept(&of(4_096), (64, 4_096), &[], 0) && !kept(&of(4_097), (64, 0), &[], 0));
+        assert!(kept(&of(532), (0, 0, 0), &rule, 15) && !kept(&of(533), (0, 0, 0), &rule, 15));
+        assert!(kept(&of(4_096), (64, 4_096, 3), &[], 0) && !kept(&of(4_097), (64, 0, 3), &[], 0));
     }
 }

@@ -10,10 +10,7 @@ use crate::cases::case::Case;
 
 /// What differs, if anything does.
 pub fn wrong(case: &Case, answer: &Answer) -> Option<String> {
-    let Answer::Turned { number: 0, written, output, .. } = answer else {
-        return None;
-    };
-    let front = &output[..*written];
+    let front = answer.turned()?;
     match case {
         Case::Read { text, .. } => read_wrong(text, front),
         Case::Write { rule, .. } => write_wrong(rule, front),
@@ -51,7 +48,7 @@ mod tests {
         let rule = rule::bytes(&[plain(TRUE, 0, 0), plain(LABEL, 2, 0), node(A, 1, 0, 1, 14)]);
         assert_eq!(read_wrong(b"A(true U<=14 L2)", &rule), None);
         assert!(read_wrong(b"A(true U<=15 L2)", &rule).is_some_and(|what| what.ends_with("A(true U<=14 L2)")));
-        assert!(read_wrong(b"A(true U<=14 L2)", &rule[..30]).is_some_and(|what| what.contains("refused 12 at 0")));
+        assert!(read_wrong(b"A(true U<=14 L2)", &rule[..30]).is_some_and(|what| what.contains("refused 12 at 0 3")));
     }
 
     #[test]

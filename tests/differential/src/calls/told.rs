@@ -1,23 +1,25 @@
-//! What a call with one output answers, of either program: number, place, and how many bytes it wrote.
+//! What a call with one output answers, of either program: the outcome, and how many bytes it wrote.
 
 use doilystrand::{Refusal, Run};
 
+use crate::calls::outcome::Outcome;
+
 pub trait Told {
-    fn told(self) -> (u32, u32, usize);
+    fn told(self) -> (Outcome, usize);
 }
 
 impl Told for oracle::Written {
-    fn told(self) -> (u32, u32, usize) {
-        (self.outcome.number, self.outcome.place, self.written)
+    fn told(self) -> (Outcome, usize) {
+        (self.outcome.into(), self.written)
     }
 }
 
 /// The wrapper gives what was written, or a refusal.
 impl<T: Front> Told for Result<T, Refusal> {
-    fn told(self) -> (u32, u32, usize) {
+    fn told(self) -> (Outcome, usize) {
         match self {
-            Ok(written) => (0, 0, written.size()),
-            Err(refusal) => (refusal.outcome().number, refusal.outcome().place, 0),
+            Ok(written) => (Outcome::ACCEPTED, written.size()),
+            Err(refusal) => (refusal.outcome().into(), 0),
         }
     }
 }

@@ -42,11 +42,11 @@ fn accepted(nodes: &[Node], lent: usize, written: usize) -> Vec<&'static str> {
 
 /// Those that a write met.
 pub fn kinds(case: &Case, answer: &Answer) -> Vec<&'static str> {
-    let (Case::Write { rule, output }, Answer::Turned { number, written, .. }) = (case, answer) else {
+    let (Case::Write { rule, output }, Answer::Turned { outcome, written, .. }) = (case, answer) else {
         return Vec::new();
     };
     let nodes = rule::nodes(rule);
-    match number {
+    match outcome.number {
         0 => accepted(&nodes, output.length, *written),
         66 => rule_met::output_short(output.length, text(&nodes).len()),
         _ => only(&[(output.length == 0, UNLENT)]),

@@ -29,6 +29,16 @@ pub enum Case {
 
 pub const CALLS: [&str; 8] = ["check", "kind", "map", "row", "show", "count", "read", "write"];
 
+/// Places in `CALLS`.
+pub const CHECK: usize = 0;
+pub const KIND: usize = 1;
+pub const MAP: usize = 2;
+pub const ROW: usize = 3;
+pub const SHOW: usize = 4;
+pub const COUNT: usize = 5;
+pub const READ: usize = 6;
+pub const WRITE: usize = 7;
+
 impl Lent {
     pub fn new(length: usize, fill: u64) -> Lent {
         Lent { length, fill }
@@ -58,14 +68,14 @@ impl Case {
     /// The place of the call in `CALLS`.
     pub fn call(&self) -> usize {
         match self {
-            Case::Check { .. } => 0,
-            Case::Kind { .. } => 1,
-            Case::Map { .. } => 2,
-            Case::Row { .. } => 3,
-            Case::Show { .. } => 4,
-            Case::Count { .. } => 5,
-            Case::Read { .. } => 6,
-            Case::Write { .. } => 7,
+            Case::Check { .. } => CHECK,
+            Case::Kind { .. } => KIND,
+            Case::Map { .. } => MAP,
+            Case::Row { .. } => ROW,
+            Case::Show { .. } => SHOW,
+            Case::Count { .. } => COUNT,
+            Case::Read { .. } => READ,
+            Case::Write { .. } => WRITE,
         }
     }
 }

@@ -3,12 +3,14 @@
 use crate::bytes::chart::{arrow, framed, Chart, NO_END};
 use crate::bytes::rule::{self, plain, Node, TRUE};
 use crate::calls::compare::{Answer, Kind, Part};
+use crate::calls::outcome::Outcome;
 use crate::cases::case::{Case, Lent, Table};
 use crate::cases::replay::hex;
 
 #[derive(Debug)]
 pub enum Expected {
-    Outcome(u32, u32),
+    /// Number, place and entry.
+    Outcome(u32, u32, u32),
     /// Accepted, with these marks for the last node, states in order.
     Last(&'static str),
     /// Accepted, with these marks for all nodes.
@@ -46,7 +48,8 @@ impl Named {
         match (&self.expected, answer) {
             (
                 Expected::Last(text),
-                Answer::Check { number: 0, place: 0, marks, .. } | Answer::Count { number: 0, place: 0, marks, .. },
+                Answer::Check { outcome: Outcome::ACCEPTED, marks, .. }
+                | Answer::Count { outcome: Outcome::ACCEPTED, marks, .. },
             ) => {
                 let Some(first) = self.last_row(text.len()) else {
                     return false;
@@ -55,21 +58,26 @@ impl Named {
             }
             (
                 Expected::Marks(text),
-                Answer::Check { number: 0, place: 0, marks, .. } | Answer::Count { number: 0, place: 0, marks, .. },
+                Answer::Check { outcome: Outcome::ACCEPTED, marks, .. }
+                | Answer::Count { outcome: Outcome::ACCEPTED, marks, .. },
             ) => marks.get(..text.len()).is_some_and(|all| digits(all) == *text),
-            (Expected::Kind(wanted), Answer::Kind { number: 0, place: 0, kind }) => kind == wanted,
+            (Expected::Kind(wanted), Answer::Kind { outcome: Outcome::ACCEPTED, kind }) => kind == wanted,
             (Expected::EmptyPart, Answer::Row(part)) => *part == Part::Empty,
             (Expected::Part(from, length), Answer::Row(Part::At { offset, bytes })) => {
                 offset == from && bytes.len() == *length
             }
-            (Expected::Run(text), Answer::Show { number: 0, place: 0, written, output, .. }) => {
+            (Expected::Run(text), Answer::Show { outcome: Outcome::ACCEPTED, written, output, .. }) => {
                 output.get(..*written).is_some_and(|run| hex(run) == *text)
             }
-            (Expected::Steps(steps), Answer::Show { number: 0, place: 0, written, .. }) => *written == 6 * (steps + 1),
+            (Expected::Steps(steps), Answer::Show { outcome: Outcome::ACCEPTED, written, .. }) => {
+                *written == 6 * (steps + 1)
+            }
             (Expected::Rule(text), Answer::Turned { .. }) => answer.turned().is_some_and(|rule| hex(rule) == *text),
             (Expected::Nodes(nodes), Answer::Turned { .. }) => answer.turned() == Some(&rule::bytes(nodes)),
             (Expected::Text(text), Answer::Turned { .. }) => answer.turned() == Some(text.as_bytes()),
-            (Expected::Outcome(number, place), other) => other.outcome() == Some((*number, *place)),
+            (&Expected::Outcome(number, place, entry), other) => {
+                other.outcome() == Some(Outcome { number, place, entry })
+            }
             _ => false,
         }
     }
@@ -80,6 +88,24 @@ impl Named {
             Case::Check { rule, .. } | Case::Count { rule, .. } => Some((rule.len() - 7) / 8 * n - n),
             _ => None,
         }
+    }
+}
+
+impl Expected {
+    /// What a call answers that goes on where another one accepts.
+    pub fn then(self, later: Expected) -> Expected {
+        match self {
+            Expected::Outcome(0, ..) => later,
+            refused => refused,
+        }
+    }
+}
+
+/// Accepted where the number is 0; else the paper of this entry is wrong.
+pub fn accepted_or(number: u32, place: u32, entry: u32) -> Expected {
+    match number {
+        0 => Expected::Outcome(0, 0, 0),
+        _ => Expected::Outcome(number, place, entry),
     }
 }
 

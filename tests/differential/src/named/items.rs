@@ -30,7 +30,7 @@ fn not_yet(operation: u8, kind: u8, c: usize) -> Vec<Node> {
 fn item(list: &mut Vec<Named>, number: u32, chart: &Chart, nodes: &[Node], marks: &'static str) {
     add(list, &format!("item {number}"), exact(chart, nodes), Expected::Last(marks));
     let greatest = nodes.iter().map(|node| node.c).max();
-    let counted = if greatest > Some(255) { Expected::Outcome(63, 2) } else { Expected::Last(marks) };
+    let counted = if greatest > Some(255) { Expected::Outcome(63, 2, 3) } else { Expected::Last(marks) };
     add(list, &format!("item {number}, count"), exact_count(chart, nodes), counted);
 }
 

@@ -106,7 +106,7 @@ fn rings(c: usize) -> Chart {
 
 fn test(list: &mut Vec<Named>, name: &str, chart: &Chart, c: usize) {
     let name = format!("large: {name}, bound {c}");
-    add(list, &name, exact(chart, &four_untils(c)), Expected::Outcome(0, 0));
+    add(list, &name, exact(chart, &four_untils(c)), Expected::Outcome(0, 0, 0));
 }
 
 /// Of count, under the greatest bound.
@@ -114,7 +114,7 @@ fn counts(list: &mut Vec<Named>) {
     let c = 255;
     let mut test = |name: &str, chart: Chart| {
         let case = exact_count(&chart, &four_untils(c));
-        add(list, &format!("large: {name}, count, bound {c}"), case, Expected::Outcome(0, 0));
+        add(list, &format!("large: {name}, count, bound {c}"), case, Expected::Outcome(0, 0, 0));
     };
     for minutes in [5, 150] {
         test(&format!("random up to {minutes} minutes or no end"), random(minutes, true));

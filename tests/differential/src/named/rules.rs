@@ -2,32 +2,32 @@
 
 use crate::bytes::rule::{self, node, plain, Node, A, AND, E, LABEL, NOT, OR, TRUE};
 use crate::cases::case::Case;
-use crate::named::charts::{after_check, resized, with_first, List};
-use crate::named::expected::{add, check, count, just_true, short, show, write, Expected};
+use crate::named::charts::{resized, with_first, List, NO_UNTIL};
+use crate::named::expected::{accepted_or, add, check, count, just_true, short, show, write, Expected};
 
 /// What count answers where check answers this: 63 too, for a bound above 255.
-fn counted(rule: &[u8], number: u32, place: u32) -> Expected {
+fn counted(rule: &[u8], of_check: Expected) -> Expected {
     let mut nodes = rule.get(7..).unwrap_or(&[]).chunks_exact(8);
     match nodes.position(|node| node[6] > 0) {
-        Some(node) if number == 0 => Expected::Outcome(63, node as u32),
-        _ => Expected::Outcome(number, place),
+        Some(node) => of_check.then(Expected::Outcome(63, node as u32, 3)),
+        None => of_check,
     }
 }
 
 /// A rule in check, in count and in show over Short, in kind of rule and in write.
 fn rule_row(list: &mut List, name: &str, rule: Vec<u8>, number: u32, place: u32) {
+    let told = || accepted_or(number, place, 3);
     let as_check = check(short().bytes(), rule.clone(), 64 * 3, 12);
-    add(list, &format!("{name}, check"), as_check, Expected::Outcome(number, place));
+    add(list, &format!("{name}, check"), as_check, told());
     let as_count = count(short().bytes(), rule.clone(), 64 * 3, 256 * 3);
-    add(list, &format!("{name}, count"), as_count, counted(&rule, number, place));
+    add(list, &format!("{name}, count"), as_count, counted(&rule, told()));
     let as_show = show((short().bytes(), rule.clone()), 64 * 3, 257 * 3, [0, 0], 6);
-    add(list, &format!("{name}, show"), as_show, Expected::Outcome(after_check(number), place));
-    let as_kind = Case::Kind { rule: rule.clone() };
-    add(list, &format!("{name}, kind"), as_kind, Expected::Outcome(number, place));
-    add(list, &format!("{name}, write"), write(rule.clone(), 532), Expected::Outcome(number, place));
+    add(list, &format!("{name}, show"), as_show, told().then(NO_UNTIL));
+    add(list, &format!("{name}, kind"), Case::Kind { rule: rule.clone() }, told());
+    add(list, &format!("{name}, write"), write(rule.clone(), 532), told());
     // The output is looked at last.
-    let short = if number == 0 { 66 } else { number };
-    add(list, &format!("{name}, write, output empty"), write(rule, 0), Expected::Outcome(short, place));
+    let unlent = told().then(Expected::Outcome(66, 0, 5));
+    add(list, &format!("{name}, write, output empty"), write(rule, 0), unlent);
 }
 
 fn rule_frame(list: &mut List) {
@@ -119,7 +119,7 @@ fn unknown_operations(list: &mut List) {
         let (mut nodes, place) = ended_by(right);
         nodes[place as usize].operation = operation;
         let name = format!("row 14: operation {operation} with the fields of {}", right.operation);
-        add(list, &name, Case::Kind { rule: rule::bytes(&nodes) }, Expected::Outcome(14, place));
+        add(list, &name, Case::Kind { rule: rule::bytes(&nodes) }, Expected::Outcome(14, place, 3));
     }
 }
 

@@ -10,7 +10,7 @@ const ROOM: usize = 519;
 /// Refused with 64 at this byte.
 fn stops(list: &mut List, text: impl AsRef<[u8]>, place: usize) {
     let name = format!("64: {}", String::from_utf8_lossy(text.as_ref()));
-    add(list, &name, read(text, ROOM), Expected::Outcome(64, place as u32));
+    add(list, &name, read(text, ROOM), Expected::Outcome(64, place as u32, 3));
 }
 
 /// Read as these nodes.
@@ -154,7 +154,7 @@ fn ends(list: &mut List) {
     for length in 0..whole.len() {
         stops(list, &whole[..length], length);
     }
-    add(list, "64 passed: the whole of it", read(whole, ROOM), Expected::Outcome(0, 0));
+    add(list, "64 passed: the whole of it", read(whole, ROOM), Expected::Outcome(0, 0, 0));
 }
 
 /// Any byte may occur: where a formula begins, behind one, and in a bound.

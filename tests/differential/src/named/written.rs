@@ -59,7 +59,7 @@ fn outputs(list: &mut List) {
             add(list, &format!("row 66 passed: {name} written, {output} bytes"), write(rule.clone(), output), told);
         }
         for output in [0, 1, length / 2, length - 1] {
-            let short = Expected::Outcome(66, 0);
+            let short = Expected::Outcome(66, 0, 5);
             add(list, &format!("row 66: {name} written, {output} bytes"), write(rule.clone(), output), short);
         }
     }

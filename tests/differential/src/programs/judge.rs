@@ -2,20 +2,29 @@
 
 use std::process::Output;
 
+use crate::programs::complaint;
+
 /// Lines are shown whole up to this many bytes, longer ones about the first byte that differs.
 const SHOWN: usize = 280;
 const BEFORE: usize = 60;
 
-pub fn difference(ended: &Output, text: impl AsRef<[u8]>) -> Option<String> {
-    badly_ended(ended).or_else(|| first_difference(("program", &ended.stdout), ("oracle", text.as_ref())))
+/// The text is all that the program has to print; on standard error it follows from that.
+pub fn difference(program: &str, ended: &Output, text: impl AsRef<[u8]>) -> Option<String> {
+    let text = text.as_ref();
+    badly_ended(ended)
+        .or_else(|| first_difference(("program", &ended.stdout), ("oracle", text)))
+        .or_else(|| other_complaint(program, ended, text))
 }
 
 pub fn badly_ended(ended: &Output) -> Option<String> {
-    if !ended.status.success() {
-        return Some(format!("ended with {}", ended.status));
-    }
-    let excerpt = || format!("wrote to standard error: {}", excerpt(Some(&ended.stderr), 0));
-    (!ended.stderr.is_empty()).then(excerpt)
+    (!ended.status.success()).then(|| format!("ended with {}", ended.status))
+}
+
+/// Of a program that printed this text, which is right.
+pub fn other_complaint(program: &str, ended: &Output, text: &[u8]) -> Option<String> {
+    let complaint = complaint::of(program, text);
+    let what = first_difference(("program", &ended.stderr), ("words", complaint.as_bytes()))?;
+    Some(format!("standard error, {what}"))
 }
 
 /// Whose text it is, and the text.
@@ -70,11 +79,12 @@ mod tests {
 
     #[test]
     fn only_the_text_alone_and_status_0_are_right() {
-        assert_eq!(difference(&ended(0, "a\n", ""), "a\n"), None);
-        assert_eq!(difference(&ended(3 << 8, "a\n", ""), "a\n").as_deref(), Some("ended with exit status: 3"));
-        assert!(difference(&ended(11, "a\n", ""), "a\n").is_some_and(|what| what.contains("signal: 11")));
-        assert!(difference(&ended(0, "a\n", "b"), "a\n").is_some_and(|what| what.contains("\"b\"")));
-        assert!(difference(&ended(0, "a\n", ""), "b\n").is_some());
+        let difference = |status, stdout, stderr| difference("desk", &ended(status, stdout, stderr), "a\n");
+        assert_eq!(difference(0, "a\n", ""), None);
+        assert_eq!(difference(3 << 8, "a\n", "").as_deref(), Some("ended with exit status: 3"));
+        assert!(difference(11, "a\n", "").is_some_and(|what| what.contains("signal: 11")));
+        assert!(difference(0, "a\n", "b").is_some_and(|what| what.contains("standard error") && what.contains("\"b\"")));
+        assert!(difference(0, "b\n", "").is_some());
     }
 
     fn said(x: &[u8], y: &[u8]) -> String {

@@ -56,7 +56,7 @@ fn papers(list: &mut List) {
     add(list, "the paper's listing", listed, LISTING, SHORT_CALLS.into());
     let bare = Chart { labels: vec![0; 3], arrows: vec![arrow(0, 1, 1, 1), arrow(1, 0, 1, 1)] };
     let refused = files(bare.bytes(), listed_rule());
-    add(list, "the paper's refusal", refused, "refused 9 at 2\n", calls(&[], &[]));
+    add(list, "the paper's refusal", refused, "refused 9 at 2 1\n", calls(&[], &[]));
 }
 
 /// The reader asks for 1 to 9 alone.
@@ -65,14 +65,14 @@ fn timelocks(list: &mut List) {
         let calls = calls(&[], &arrows);
         add(list, name, files(Chart { labels: vec![0; n], arrows }.bytes(), listed_rule()), listing, calls);
     };
-    test("a 0 to 0 self loop", 1, vec![arrow(0, 0, 0, 0)], "refused 19 at 0\n");
+    test("a 0 to 0 self loop", 1, vec![arrow(0, 0, 0, 0)], "refused 19 at 0 1\n");
     let beside_1 = |most| vec![arrow(0, 0, 1, 1), arrow(1, 0, 1, 1), arrow(2, 2, 0, most)];
-    test("a 0 to 0 loop of state 2", 3, beside_1(0), "refused 19 at 2\n");
+    test("a 0 to 0 loop of state 2", 3, beside_1(0), "refused 19 at 2 1\n");
     test("a 0 to 1 loop of state 2", 3, beside_1(1), "states 3 nodes 3\n0 111\n1 000\n2 000\n");
     test("a self loop of 0 to 3", 1, vec![arrow(0, 0, 0, 3)], "states 1 nodes 3\n0 1\n1 0\n2 0\n");
     let handing = vec![arrow(0, 1, 0, 3), arrow(1, 0, 0, 3)];
     test("0 to 3 minutes each way", 2, handing, "states 2 nodes 3\n0 11\n1 00\n2 00\n");
-    test("0 to 0 each way", 2, vec![arrow(0, 1, 0, 0), arrow(1, 0, 0, 0)], "refused 19 at 0\n");
+    test("0 to 0 each way", 2, vec![arrow(0, 1, 0, 0), arrow(1, 0, 0, 0)], "refused 19 at 0 1\n");
 }
 
 /// What can't be opened, or can't be read once it is, counts as empty.
@@ -81,13 +81,13 @@ fn unreadable(list: &mut List) {
     for (name, sort) in sorts {
         let whole = || files(short().bytes(), listed_rule());
         let no_chart = Files { chart: sort.clone(), ..whole() };
-        add(list, &format!("chart {name}"), no_chart, "refused 1 at 0\n", calls(&[], &[]));
+        add(list, &format!("chart {name}"), no_chart, "refused 1 at 0 1\n", calls(&[], &[]));
         let no_rule = Files { rule: sort.clone(), ..whole() };
-        add(list, &format!("rule {name}"), no_rule, "refused 10 at 0\n", SHORT_CALLS.into());
+        add(list, &format!("rule {name}"), no_rule, "refused 10 at 0 3\n", SHORT_CALLS.into());
         let no_ask = Files { ask: sort.clone(), ..whole() };
         add(list, &format!("ask {name}"), no_ask, LISTING, SHORT_CALLS.into());
         let nothing = Files { chart: sort.clone(), rule: sort.clone(), ask: sort };
-        add(list, &format!("all {name}"), nothing, "refused 1 at 0\n", calls(&[], &[]));
+        add(list, &format!("all {name}"), nothing, "refused 1 at 0 1\n", calls(&[], &[]));
     }
 }
 

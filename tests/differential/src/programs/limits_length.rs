@@ -48,13 +48,13 @@ fn charts(list: &mut List) {
     };
     let accepted = format!("states 256 nodes 1\n0 {}\n", "1".repeat(256));
     test(16_905, 16_905, &accepted, &longest.arrows);
-    test(16_904, 16_904, "refused 6 at 0\n", &[]);
-    test(16_904, 16_905, "refused 3 at 0\n", &[]);
+    test(16_904, 16_904, "refused 6 at 0 1\n", &[]);
+    test(16_904, 16_905, "refused 3 at 0 1\n", &[]);
     for length in [16_906, 16_907, 17_000, 40_000] {
-        test(length, 16_905, "refused 3 at 0\n", &[]);
-        test(length, 16_906, "refused 6 at 0\n", &[]);
-        test(length, 16_907, "refused 3 at 0\n", &[]);
-        test(length, 17_000, "refused 3 at 0\n", &[]);
+        test(length, 16_905, "refused 3 at 0 1\n", &[]);
+        test(length, 16_906, "refused 6 at 0 1\n", &[]);
+        test(length, 16_907, "refused 3 at 0 1\n", &[]);
+        test(length, 17_000, "refused 3 at 0 1\n", &[]);
     }
 }
 
@@ -66,13 +66,13 @@ fn rules(list: &mut List) {
     let row = |t: usize| format!("{t} {}\n", if t % 2 == 0 { "111" } else { "000" });
     let accepted = format!("states 3 nodes 64\n{}", (0..64).map(row).collect::<String>());
     test(519, 519, &accepted);
-    test(518, 518, "refused 13 at 0\n");
-    test(518, 519, "refused 12 at 0\n");
+    test(518, 518, "refused 13 at 0 3\n");
+    test(518, 519, "refused 12 at 0 3\n");
     for length in [520, 521, 600, 20_000] {
-        test(length, 519, "refused 12 at 0\n");
-        test(length, 520, "refused 13 at 0\n");
-        test(length, 521, "refused 12 at 0\n");
-        test(length, 600, "refused 12 at 0\n");
+        test(length, 519, "refused 12 at 0 3\n");
+        test(length, 520, "refused 13 at 0 3\n");
+        test(length, 521, "refused 12 at 0 3\n");
+        test(length, 600, "refused 12 at 0 3\n");
     }
 }
 
@@ -82,9 +82,9 @@ fn both_long(list: &mut List) {
     add(list, "the longest chart and rule", both, &longest_listing(), calls(&[], &chart.arrows));
     let longer = stating(rule, 520, 519);
     let both = files(chart.bytes(), longer.clone());
-    add(list, "the longest chart, a rule too long", both, "refused 12 at 0\n", calls(&[], &chart.arrows));
+    add(list, "the longest chart, a rule too long", both, "refused 12 at 0 3\n", calls(&[], &chart.arrows));
     let both = files(stating(chart.bytes(), 16_906, 16_905), longer);
-    add(list, "chart and rule too long", both, "refused 3 at 0\n", calls(&[], &[]));
+    add(list, "chart and rule too long", both, "refused 3 at 0 1\n", calls(&[], &[]));
 }
 
 pub fn all(list: &mut List) {

@@ -12,7 +12,7 @@ fn table(length: usize) -> Vec<u8> {
 fn test(list: &mut List, ask: Vec<u8>, row: &[u8]) {
     let name = format!("ask {ask:?}, a row of {} bytes", row.len());
     let asked = Files { ask: Stored::Bytes(ask), ..files(table(17_000), table(600)) };
-    add(list, &name, asked, "refused 2 at 0\n", calls(row, &[]));
+    add(list, &name, asked, "refused 2 at 0 1\n", calls(row, &[]));
 }
 
 /// Around the end of what is read; any choice but 0 is the detail.

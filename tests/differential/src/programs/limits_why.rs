@@ -28,9 +28,9 @@ fn of_short(list: &mut List) {
     let met = "0 at 0: 5 minutes to 1\n1 at 5: 0 minutes to 2\n2 at 5: until met at 5\n";
     test("E(true until L2, at most 5)", (E, 5), "111", 0, met);
     test("E, no step", (E, 5), "111", 2, "2 at 0: until met at 0\n");
-    test("E, a state out of range", (E, 5), "111", 3, "refused 60 at 0\n");
-    test("E, unmarked", (E, 4), "011", 0, "refused 60 at 0\n");
-    test("A, marked", (A, 14), "111", 0, "refused 60 at 0\n");
+    test("E, a state out of range", (E, 5), "111", 3, "refused 60 at 0 3\n");
+    test("E, unmarked", (E, 4), "011", 0, "refused 60 at 0 3\n");
+    test("A, marked", (A, 14), "111", 0, "refused 60 at 0 3\n");
     let late = "0 at 0: 10 minutes to 1\n1 at 10: 4 minutes to 2\n2 at 14: above 13\n";
     test("A, unmarked, at most 13", (A, 13), "011", 0, late);
 }
@@ -46,9 +46,9 @@ fn of_one(list: &mut List) {
     };
     let at_least = |c| [plain(TRUE, 0, 0), plain(TRUE, 0, 0), node(E, 2, 0, 1, c)];
     test("256 steps", &at_least(256), [1, 1, 1], &(waited(256) + "0 at 256: until met at 256\n"));
-    test("above 256 steps", &at_least(257), [1, 1, 1], "refused 62 at 0\n");
+    test("above 256 steps", &at_least(257), [1, 1, 1], "refused 62 at 0 5\n");
     test("A, 256 steps", &eventually(A, 1, 0, 255), [1, 0, 0], &(waited(256) + "0 at 256: above 255\n"));
-    test("A, above 256 steps", &eventually(A, 1, 0, 256), [1, 0, 0], "refused 62 at 0\n");
+    test("A, above 256 steps", &eventually(A, 1, 0, 256), [1, 0, 0], "refused 62 at 0 5\n");
     let nowhere = [plain(LABEL, 0, 0), plain(LABEL, 1, 0), node(A, 1, 0, 1, 9)];
     test("A, neither operand", &nowhere, [0, 0, 0], "0 at 0: neither operand\n");
 }
@@ -78,7 +78,7 @@ fn in_no_time(list: &mut List) {
     test("0 to 3 each way, at least 6", handing((0, 3), (0, 3)), (E, 2, 6), "11", 1, round);
     let late = "0 at 0: 3 minutes to 1\n1 at 3: above 2\n";
     test("0 to 3 each way, A", handing((0, 3), (0, 3)), (A, 1, 2), "01", 0, late);
-    test("staying 0 to 0, A, marked", staying((0, 0)), (A, 1, 0), "11", 0, "refused 60 at 0\n");
+    test("staying 0 to 0, A, marked", staying((0, 0)), (A, 1, 0), "11", 0, "refused 60 at 0 3\n");
     test("staying 0 to 1, A", staying((0, 1)), (A, 1, 0), "01", 0, "0 at 0: 1 minutes to 0\n0 at 1: above 0\n");
     let out = "0 at 0: 0 minutes to 1\n1 at 0: 4 minutes to 2\n2 at 4: above 3\n";
     test("turning 0 to 0, A", turning((0, 0)), (A, 1, 3), "001", 0, out);

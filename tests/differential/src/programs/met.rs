@@ -45,7 +45,7 @@ fn of_row(files: &Files, calls: &str) -> usize {
 
 /// None where check refuses, or no run fits.
 fn of_why(why: &str) -> Option<usize> {
-    if why == "refused 60 at 0\n" {
+    if why == "refused 60 at 0 3\n" {
         return Some(10);
     }
     (!why.starts_with("refused ")).then_some(9)
@@ -90,11 +90,11 @@ mod tests {
         let (chart, rule) = (short().bytes(), rule::bytes(&just_true()));
         let listed = met(chart.clone(), rule.clone(), asks::bytes(0, 1, 0), "0 at 0: until met at 0\n");
         assert_eq!(listed, ["listings", "charts read", "overview rows found", "runs shown"]);
-        let no_chart = met(vec![], rule.clone(), asks::bytes(1, 1, 0), "refused 1 at 0\n");
+        let no_chart = met(vec![], rule.clone(), asks::bytes(1, 1, 0), "refused 1 at 0 1\n");
         assert_eq!(no_chart, ["refusals of the chart", "charts finished at once", "detail rows found"]);
-        let no_rule = met(chart.clone(), vec![], asks::bytes(255, 1, 0), "refused 10 at 0\n");
+        let no_rule = met(chart.clone(), vec![], asks::bytes(255, 1, 0), "refused 10 at 0 3\n");
         assert_eq!(no_rule, ["refusals of the rule", "charts read", "detail rows empty"]);
-        let nothing_asked = met(chart, rule, vec![], "refused 60 at 0\n");
+        let nothing_asked = met(chart, rule, vec![], "refused 60 at 0 3\n");
         assert_eq!(nothing_asked, ["listings", "charts read", "overview rows empty", "runs refused by 60"]);
     }
 }

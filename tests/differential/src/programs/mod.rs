@@ -2,6 +2,7 @@
 
 pub mod asks;
 pub mod compare;
+pub mod complaint;
 pub mod files;
 pub mod folder;
 pub mod judge;

@@ -33,7 +33,7 @@ impl PairPrograms {
         let mut differences = against_written(pair, texts);
         for ((name, path), text) in PROGRAMS.iter().zip(&self.paths).zip(texts) {
             let what = match process::run(Command::new(path).current_dir(folder.path()), limit) {
-                Ok(ended) => judge::difference(&ended, text),
+                Ok(ended) => judge::difference(name, &ended, text),
                 Err(what) => Some(what),
             };
             differences.extend(what.map(|what| format!("{name}: {what}")));

@@ -29,21 +29,22 @@ impl TypedPrograms {
         if let (Some(pieces), Some(printed)) = (&typed.pieces, &done.printed) {
             let mut command = Command::new(&self.rule);
             let ended = process::run_typed(command.current_dir(folder.path()), pieces.clone(), limit);
-            differences.extend(wrong(ended, printed).map(|what| format!("{RULE}: {what}")));
+            differences.extend(wrong(RULE, ended, printed));
             differences.extend(file_wrong(folder.path(), &done.file)?.map(|what| format!("{RULE}: {what}")));
         }
         let ended = process::run(Command::new(&self.text).current_dir(folder.path()), limit);
-        differences.extend(wrong(ended, &done.told).map(|what| format!("{TEXT}: {what}")));
+        differences.extend(wrong(TEXT, ended, &done.told));
         differences.extend(file_wrong(folder.path(), &done.file)?.map(|what| format!("{TEXT}: {what}")));
         Ok(differences)
     }
 }
 
-fn wrong(ended: Result<Output, String>, text: &[u8]) -> Option<String> {
-    match ended {
-        Ok(ended) => difference(&ended, text),
+fn wrong(program: &str, ended: Result<Output, String>, text: &[u8]) -> Option<String> {
+    let what = match ended {
+        Ok(ended) => difference(program, &ended, text),
         Err(what) => Some(what),
-    }
+    };
+    what.map(|what| format!("{program}: {what}"))
 }
 
 /// Only desk.rul lies in the folder, and it is this.

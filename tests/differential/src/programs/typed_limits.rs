@@ -24,11 +24,12 @@ fn accepted(nodes: &[Node], text: &str) -> Done {
     Done { printed: Some(Vec::new()), file: Stored::Bytes(rule::bytes(nodes)), told: format!("{text}\n").into_bytes() }
 }
 
-/// desk_rule prints the refusal, what it has read, and a sign under the place; what lay there is as it was, so nothing.
+/// desk_rule prints the refusal, the rule being wrong, what it has read, and a sign under the place; what lay there is
+/// as it was, so nothing.
 fn refused(number: u32, place: usize, shown: impl AsRef<[u8]>) -> Done {
-    let (line, sign) = (format!("refused {number} at {place}\n"), format!("\n{}^\n", " ".repeat(place)));
+    let (line, sign) = (format!("refused {number} at {place} 3\n"), format!("\n{}^\n", " ".repeat(place)));
     let printed = [line.as_bytes(), shown.as_ref(), sign.as_bytes()].concat();
-    Done { printed: Some(printed), file: Stored::Missing, told: b"refused 10 at 0\n".to_vec() }
+    Done { printed: Some(printed), file: Stored::Missing, told: b"refused 10 at 0 3\n".to_vec() }
 }
 
 fn within_14() -> Vec<Node> {
@@ -113,7 +114,7 @@ fn files(list: &mut List) {
     add_over(list, "65 over a rule", longer(), once(&above), kept(65, 0, &above));
     add_over(list, "nothing over a rule", longer(), Vec::new(), kept(64, 0, ""));
     let strange = Stored::Bytes(vec![7; 20_000]);
-    let kept = Done { file: strange.clone(), told: b"refused 11 at 0\n".to_vec(), ..refused(64, 0, "x") };
+    let kept = Done { file: strange.clone(), told: b"refused 11 at 0 3\n".to_vec(), ..refused(64, 0, "x") };
     add_over(list, "64 over another file", strange, once("x\n"), kept);
 }
 
@@ -135,9 +136,9 @@ fn texts(list: &mut List) {
         of(&[plain(LABEL, 1, 0), plain(TRUE, 0, 0), plain(AND, 1, 0)]),
         "(true & L1)",
     );
-    told(list, "no file", Stored::Missing, "refused 10 at 0");
-    told(list, "a folder", Stored::Folder, "refused 10 at 0");
-    told(list, "an empty file", Stored::Bytes(vec![]), "refused 10 at 0");
+    told(list, "no file", Stored::Missing, "refused 10 at 0 3");
+    told(list, "a folder", Stored::Folder, "refused 10 at 0 3");
+    told(list, "an empty file", Stored::Bytes(vec![]), "refused 10 at 0 3");
 }
 
 /// Rows 10 to 16, and files that are longer than what is read.
@@ -145,19 +146,19 @@ fn rules(list: &mut List) {
     let three = rule::bytes(&within_14());
     let with = |at: usize, byte: u8| [&three[..at], &[byte], &three[at + 1..]].concat();
     let mut test = |name: &str, bytes: Vec<u8>, text: &str| told(list, name, Stored::Bytes(bytes), text);
-    test("6 bytes", three[..6].to_vec(), "refused 10 at 0");
-    test("version 2", with(0, 2), "refused 11 at 0");
-    test("a byte cut", three[..30].to_vec(), "refused 12 at 0");
-    test("two nodes stated", with(6, 2), "refused 13 at 0");
-    test("label 16", with(18, 16), "refused 14 at 1");
+    test("6 bytes", three[..6].to_vec(), "refused 10 at 0 3");
+    test("version 2", with(0, 2), "refused 11 at 0 3");
+    test("a byte cut", three[..30].to_vec(), "refused 12 at 0 3");
+    test("two nodes stated", with(6, 2), "refused 13 at 0 3");
+    test("label 16", with(18, 16), "refused 14 at 1 3");
     test("label 15", with(18, 15), "A(true U<=14 L15)");
-    test("kind 3", with(24, 3), "refused 14 at 2");
-    test("an operand that is its node", with(28, 2), "refused 15 at 2");
-    test("an operand twice", with(28, 0), "refused 16 at 0");
-    test("65 nodes", rule::bytes(&[plain(TRUE, 0, 0); 65]), "refused 12 at 0");
-    test("a byte behind 64 nodes", [rule::bytes(&nots(64)), vec![0]].concat(), "refused 12 at 0");
-    test("100 bytes behind 64 nodes", [rule::bytes(&nots(64)), vec![0; 100]].concat(), "refused 12 at 0");
-    test("a not of itself", rule::bytes(&[plain(NOT, 0, 0)]), "refused 15 at 0");
+    test("kind 3", with(24, 3), "refused 14 at 2 3");
+    test("an operand that is its node", with(28, 2), "refused 15 at 2 3");
+    test("an operand twice", with(28, 0), "refused 16 at 0 3");
+    test("65 nodes", rule::bytes(&[plain(TRUE, 0, 0); 65]), "refused 12 at 0 3");
+    test("a byte behind 64 nodes", [rule::bytes(&nots(64)), vec![0]].concat(), "refused 12 at 0 3");
+    test("100 bytes behind 64 nodes", [rule::bytes(&nots(64)), vec![0; 100]].concat(), "refused 12 at 0 3");
+    test("a not of itself", rule::bytes(&[plain(NOT, 0, 0)]), "refused 15 at 0 3");
 }
 
 pub fn all() -> List {

@@ -31,7 +31,7 @@ impl Why {
         let written = self.written.as_ref().unwrap_or(&text);
         let differs = judge::first_difference(("program", &ended.stdout), ("written", written.as_bytes()));
         differs.map_or(Ok(()), Err).and_then(|()| self.judged(files, &text))?;
-        Ok(text)
+        judge::other_complaint(WHY, ended, &ended.stdout).map_or(Ok(text), Err)
     }
 
     pub fn judged(&self, files: &Files, text: &str) -> Result<(), String> {
@@ -46,9 +46,10 @@ impl Why {
 
 #[cfg(test)]
 mod tests {
-    use super::Why;
+    use super::{Why, WHY};
     use crate::bytes::rule::{self, node, plain, A, LABEL, TRUE};
     use crate::named::expected::short;
+    use crate::programs::complaint;
     use crate::programs::limits::files;
     use std::os::unix::process::ExitStatusExt;
     use std::process::{ExitStatus, Output};
@@ -57,7 +58,8 @@ mod tests {
 
     fn right(why: &Why, wait_status: i32, stdout: &str) -> bool {
         let rule = rule::bytes(&[plain(TRUE, 0, 0), plain(LABEL, 2, 0), node(A, 1, 0, 1, 13)]);
-        let ended = Output { status: ExitStatus::from_raw(wait_status), stdout: stdout.into(), stderr: vec![] };
+        let stderr = complaint::of(WHY, stdout.as_bytes()).into_bytes();
+        let ended = Output { status: ExitStatus::from_raw(wait_status), stdout: stdout.into(), stderr };
         why.text(&files(short().bytes(), rule), &ended).is_ok_and(|text| text == stdout)
     }
 
@@ -66,11 +68,12 @@ mod tests {
         let why = Why { node: 2, state: 0, written: None };
         assert!(right(&why, 0, RUN));
         assert!(!right(&why, 256, RUN));
-        for wrong in ["", "refused 60 at 0\n", &RUN.replace("10", "9"), &RUN.replace("above 13", "above 14"), &RUN[1..]]
+        for wrong in
+            ["", "refused 60 at 0 3\n", &RUN.replace("10", "9"), &RUN.replace("above 13", "above 14"), &RUN[1..]]
         {
             assert!(!right(&why, 0, wrong), "{wrong}");
         }
-        assert!(right(&Why { state: 1, ..why.clone() }, 0, "refused 60 at 0\n"));
+        assert!(right(&Why { state: 1, ..why.clone() }, 0, "refused 60 at 0 3\n"));
         assert!(!right(&Why { written: Some(String::new()), ..why }, 0, RUN));
     }
 }

@@ -1,6 +1,7 @@
 //! Read rule against the definition: a place is the length of the longest beginning that some formula's text has.
 
 use crate::text_call::read;
+use crate::told::Told;
 use std::collections::HashSet;
 
 type Texts = HashSet<Vec<u8>>;
@@ -57,10 +58,10 @@ fn beginnings(texts: &Texts) -> Texts {
 }
 
 /// What read rule answers by the definition: None where it takes the text.
-fn by_definition(text: &[u8], texts: &Texts, beginnings: &Texts) -> Option<(u32, u32)> {
+fn by_definition(text: &[u8], texts: &Texts, beginnings: &Texts) -> Option<Told> {
     let begun = (0..=text.len()).rev().find(|&length| beginnings.contains(&text[..length]));
     let place = begun.expect("the empty text begins every other") as u32;
-    (!texts.contains(text)).then_some((64, place))
+    (!texts.contains(text)).then_some((64, place, 3))
 }
 
 /// Every text of this length over the letters.
@@ -105,7 +106,7 @@ fn digits(before: &str, digits: &str, behind: &str, numbers: &HashSet<String>, b
         true => None,
         false => (0..=digits.len()).rev().find(|&length| begun.contains(&digits[..length])),
     };
-    assert_eq!(read(&text).err(), place.map(|place| (64, (before.len() + place) as u32)), "{text}");
+    assert_eq!(read(&text).err(), place.map(|place| (64, (before.len() + place) as u32, 3)), "{text}");
 }
 
 fn every_number(most: u32, length: usize, before: &str, behind: &str) {
@@ -137,7 +138,7 @@ fn every_bound_of_up_to_5_digits() {
 fn every_bound_of_6_digits_that_begins_as_one_of_5() {
     for number in (10_000..=65_535).step_by(7).chain([65_535]) {
         for digit in 0..10 {
-            assert_eq!(read(format!("E(L1 U>={number}{digit} L2)")), Err((64, 13)), "{number}{digit}");
+            assert_eq!(read(format!("E(L1 U>={number}{digit} L2)")), Err((64, 13, 3)), "{number}{digit}");
         }
     }
 }

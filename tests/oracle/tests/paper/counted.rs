@@ -18,7 +18,7 @@ fn the_listing() {
         assert_eq!(counted_listing(&short(), &rule), listing(&short(), &rule));
     }
     assert_eq!(counted_listing(&short(), &true_l2(A, AT_MOST, 13)), "states 3 nodes 3\n0 111\n1 001\n2 011\n");
-    assert_eq!(counted_listing(&short(), &true_l2(A, AT_MOST, 256)), "refused 63 at 2\n");
+    assert_eq!(counted_listing(&short(), &true_l2(A, AT_MOST, 256)), "refused 63 at 2 3\n");
 }
 
 /// 255 minutes are the last that can be waited for, and 256 are beyond them.

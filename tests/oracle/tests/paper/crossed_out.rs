@@ -5,6 +5,7 @@
 use crate::formulas::some_formula;
 use crate::make::Numbers;
 use crate::text_call::read;
+use crate::told::Told;
 
 const LINES: [&str; 8] =
     ["true", "!f", "(f & f)", "(f | f)", "E(f U<=c f)", "E(f U>=c f)", "A(f U<=c f)", "A(f U>=c f)"];
@@ -53,10 +54,10 @@ fn goes_on(text: &str) -> bool {
 }
 
 /// A text that goes wrong at some byte does at all later ones, so the place can be halved in on.
-fn by_crossing_out(text: &str) -> Option<(u32, u32)> {
+fn by_crossing_out(text: &str) -> Option<Told> {
     let lengths: Vec<usize> = (1..=text.len()).collect();
     let place = lengths.partition_point(|&length| begins_a_text(&text[..length]));
-    (!is_text(text)).then_some((64, place as u32))
+    (!is_text(text)).then_some((64, place as u32, 3))
 }
 
 fn agrees(text: &str) -> bool {

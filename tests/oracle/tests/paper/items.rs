@@ -1,7 +1,7 @@
 //! The thirteen items and the listing.
 
 use crate::last_marks::last_marks;
-use crate::make::{label, not, one, short, undo, NodeFields, A, AT_LEAST, AT_MOST, E, TRUE};
+use crate::make::{chart, label, not, one, short, undo, NodeFields, A, AT_LEAST, AT_MOST, E, TRUE};
 use oracle::listing;
 
 /// True until L2.
@@ -58,6 +58,8 @@ fn the_listing() {
 
 #[test]
 fn refusals_are_one_line() {
-    assert_eq!(listing(&[], &[]), "refused 1 at 0\n");
-    assert_eq!(listing(&crate::make::chart(&[0, 0, 0], &[[0, 1, 1, 1], [1, 0, 1, 1]]), &[]), "refused 9 at 2\n");
+    assert_eq!(listing(&[], &[]), "refused 1 at 0 1\n");
+    assert_eq!(listing(&short(), &[]), "refused 10 at 0 3\n");
+    assert_eq!(listing(&chart(&[0, 0], &[[0, 0, 1, 1]]), &[]), "refused 9 at 1 1\n");
+    assert_eq!(listing(&chart(&[0, 0, 0], &[[0, 1, 1, 1], [1, 0, 1, 1]]), &[]), "refused 9 at 2 1\n");
 }

@@ -46,6 +46,7 @@ fn every_change_is_found(own: &Answer) {
     assert_eq!(own.judged(), Ok(()));
     found(own.changed(|to| to.written.outcome.number += 1), "answered");
     found(own.changed(|to| to.written.outcome.place += 1), "answered");
+    found(own.changed(|to| to.written.outcome.entry += 1), "answered");
     found(own.changed(|to| to.written.written += 6), "answered");
     for i in 0..own.marks.len() {
         found(own.changed(|to| to.marks[i] ^= 1), "marks byte");
@@ -61,7 +62,7 @@ fn every_change_is_found(own: &Answer) {
 #[test]
 fn changes_after_a_success() {
     let own = Answer::own(short(), true_l2(E, AT_MOST, 5), 780, 20);
-    assert_eq!(own.written, Written { outcome: Outcome { number: 0, place: 0 }, written: 18 });
+    assert_eq!(own.written, Written { outcome: Outcome { number: 0, place: 0, entry: 0 }, written: 18 });
     every_change_is_found(&own);
     for i in 0..18 {
         assert!(own.changed(|to| to.output[i] ^= 1).is_err(), "{i}");

@@ -8,7 +8,7 @@ pub fn last_marks(chart: &[u8], nodes: &[NodeFields]) -> String {
     let n = usize::from(chart[5]) << 8 | usize::from(chart[6]);
     let (mut marks, mut counted) = (vec![7; n * nodes.len()], vec![7; n * nodes.len()]);
     let outcome = check(chart, &rule(nodes), &mut marks, &mut vec![9; 4 * n]);
-    assert_eq!(outcome, Outcome { number: 0, place: 0 });
+    assert_eq!(outcome, Outcome { number: 0, place: 0, entry: 0 });
     match count(chart, &rule(nodes), &mut counted, &mut vec![9; 256 * n]).number {
         63 => assert!(nodes[nodes.len() - 1].4 > 255),
         number => assert_eq!((number, &counted), (0, &marks)),

@@ -33,6 +33,7 @@ mod show_refusals;
 mod shown;
 mod shown_loops;
 mod text_call;
+mod told;
 mod typed_limits;
 mod typed_programs;
 mod typed_refusals;

@@ -1,23 +1,24 @@
-//! The small input of rows 20 to 23, the overview's numbers, and what covers.
+//! The small input of rows 20 to 23, the chart's rows for the overview, and what covers.
 
 use crate::make::{chart, map, one, short, undo, ArrowFields, NO_END};
+use crate::told::{told, Told};
 use oracle::map_check;
 
-fn refused(detail: &[u8], overview: &[u8], map: &[u8]) -> (u32, u32) {
-    let outcome = map_check(detail, overview, map);
-    (outcome.number, outcome.place)
+fn refused(detail: &[u8], overview: &[u8], map: &[u8]) -> Told {
+    told(map_check(detail, overview, map))
 }
 
 #[test]
 fn charts_first() {
     let looped = chart(&[0], &[[0, 0, 0, 0]]);
     let dead_end = chart(&[0, 0], &[[0, 0, 1, 1]]);
-    assert_eq!(refused(&[], &[], &[]), (1, 0));
-    assert_eq!(refused(&dead_end, &[], &[]), (9, 1));
-    assert_eq!(refused(&looped, &[], &[]), (19, 0));
-    assert_eq!(refused(&one(), &[], &[]), (41, 0));
-    assert_eq!(refused(&one(), &dead_end, &[]), (49, 1));
-    assert_eq!(refused(&one(), &looped, &[]), (59, 0));
+    assert_eq!(refused(&[], &[], &[]), (1, 0, 1));
+    assert_eq!(refused(&dead_end, &[], &[]), (9, 1, 1));
+    assert_eq!(refused(&looped, &[], &[]), (19, 0, 1));
+    assert_eq!(refused(&one(), &[], &[]), (1, 0, 2));
+    assert_eq!(refused(&short(), &[], &[]), (1, 0, 2));
+    assert_eq!(refused(&one(), &dead_end, &[]), (9, 1, 2));
+    assert_eq!(refused(&one(), &looped, &[]), (19, 0, 2));
 }
 
 #[test]
@@ -29,17 +30,19 @@ fn row_20() {
     count_2[6] = 2;
     let longer = [right.clone(), vec![0]].concat();
     for wrong in [vec![], version_2, count_2, longer, map(&[0, 1]), map(&[0, 1, 2, 0])] {
-        assert_eq!(refused(&short(), &short(), &wrong), (20, 0), "{wrong:?}");
+        assert_eq!(refused(&short(), &short(), &wrong), (20, 0, 4), "{wrong:?}");
     }
-    assert_eq!(refused(&short(), &short(), &right), (0, 0));
+    assert_eq!(refused(&short(), &short(), &right), (0, 0, 0));
 }
 
 #[test]
 fn rows_21_and_22() {
-    assert_eq!(refused(&short(), &short(), &map(&[0, 1, 3])), (21, 2));
-    assert_eq!(refused(&short(), &short(), &map(&[1, 3, 3])), (21, 1));
-    assert_eq!(refused(&short(), &short(), &map(&[0, 0, 0])), (22, 1));
-    assert_eq!(refused(&chart(&[1], &[[0, 0, 1, 1]]), &chart(&[2], &[[0, 0, 1, 1]]), &map(&[0])), (22, 0));
+    assert_eq!(refused(&short(), &short(), &map(&[0, 1, 3])), (21, 2, 4));
+    assert_eq!(refused(&short(), &short(), &map(&[0, 3, 2])), (21, 1, 4));
+    assert_eq!(refused(&short(), &short(), &map(&[0, 0, 2])), (22, 1, 4));
+    assert_eq!(refused(&short(), &short(), &map(&[1, 3, 3])), (21, 1, 4));
+    assert_eq!(refused(&short(), &short(), &map(&[0, 0, 0])), (22, 1, 4));
+    assert_eq!(refused(&chart(&[1], &[[0, 0, 1, 1]]), &chart(&[2], &[[0, 0, 1, 1]]), &map(&[0])), (22, 0, 4));
 }
 
 fn one_state(arrows: &[ArrowFields]) -> Vec<u8> {
@@ -48,9 +51,9 @@ fn one_state(arrows: &[ArrowFields]) -> Vec<u8> {
 
 fn covered(detail: ArrowFields, overview: &[ArrowFields]) -> bool {
     match refused(&one_state(&[[0, 0, 7, 7], detail]), &one_state(&[&[[0, 0, 7, 7]], overview].concat()), &map(&[0])) {
-        (0, 0) => true,
+        (0, 0, 0) => true,
         other => {
-            assert_eq!(other, (23, 1));
+            assert_eq!(other, (23, 1, 1));
             false
         }
     }
@@ -69,6 +72,6 @@ fn row_23() {
 
 #[test]
 fn undo_covers_short_and_not_the_other_way_round() {
-    assert_eq!(refused(&short(), &undo(), &map(&[0, 1, 2])), (0, 0));
-    assert_eq!(refused(&undo(), &short(), &map(&[0, 1, 2])), (23, 3));
+    assert_eq!(refused(&short(), &undo(), &map(&[0, 1, 2])), (0, 0, 0));
+    assert_eq!(refused(&undo(), &short(), &map(&[0, 1, 2])), (23, 3, 1));
 }

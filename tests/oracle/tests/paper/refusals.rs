@@ -1,30 +1,30 @@
 //! The small input of rows 1 to 19, and the order of the tests.
 
 use crate::make::{chart, label, not, one, rule, short, TRUE};
-use oracle::{check, count, kind_of_rule, Kind, Outcome};
+use crate::told::{told, Told};
+use oracle::{check, count, kind_of_rule, Kind};
 
-fn with_room(chart: &[u8], rule: &[u8], marks: usize, scratch: usize) -> (u32, u32) {
-    let Outcome { number, place } = check(chart, rule, &mut vec![7; marks], &mut vec![9; scratch]);
-    (number, place)
+fn with_room(chart: &[u8], rule: &[u8], marks: usize, scratch: usize) -> Told {
+    told(check(chart, rule, &mut vec![7; marks], &mut vec![9; scratch]))
 }
 
 /// Count must refuse as check does, with room for both.
-fn of_both(chart: &[u8], rule: &[u8]) -> (u32, u32) {
+fn of_both(chart: &[u8], rule: &[u8]) -> Told {
     let counted = count(chart, rule, &mut vec![7; 64 * 256], &mut vec![9; 256 * 256]);
     let refused = with_room(chart, rule, 64 * 256, 4 * 256);
-    assert_eq!((counted.number, counted.place), refused);
+    assert_eq!(told(counted), refused);
     refused
 }
 
-fn of_chart(chart: &[u8]) -> (u32, u32) {
+fn of_chart(chart: &[u8]) -> Told {
     of_both(chart, &rule(&[TRUE]))
 }
 
 /// Kind of rule must refuse a rule as check does.
-fn of_rule(rule: &[u8]) -> (u32, u32) {
+fn of_rule(rule: &[u8]) -> Told {
     let refused = of_both(&short(), rule);
     let answer = kind_of_rule(rule);
-    assert_eq!((answer.outcome.number, answer.outcome.place), refused);
+    assert_eq!(told(answer.outcome), refused);
     assert_eq!(answer.kind, Kind::Neither);
     refused
 }
@@ -37,12 +37,12 @@ fn altered(mut bytes: Vec<u8>, at: usize, byte: u8) -> Vec<u8> {
 
 #[test]
 fn rows_1_to_6() {
-    assert_eq!(of_chart(&[]), (1, 0));
-    assert_eq!(of_chart(&altered(short(), 0, 2)), (2, 0));
-    assert_eq!(of_chart(&[short(), vec![0]].concat()), (3, 0));
-    assert_eq!(of_chart(&altered(short(), 6, 0)), (4, 0));
-    assert_eq!(of_chart(&chart(&[0], &vec![[0, 0, 1, 1]; 2049])), (5, 0));
-    assert_eq!(of_chart(&altered([one(), vec![0]].concat(), 4, 20)), (6, 0));
+    assert_eq!(of_chart(&[]), (1, 0, 1));
+    assert_eq!(of_chart(&altered(short(), 0, 2)), (2, 0, 1));
+    assert_eq!(of_chart(&[short(), vec![0]].concat()), (3, 0, 1));
+    assert_eq!(of_chart(&altered(short(), 6, 0)), (4, 0, 1));
+    assert_eq!(of_chart(&chart(&[0], &vec![[0, 0, 1, 1]; 2049])), (5, 0, 1));
+    assert_eq!(of_chart(&altered([one(), vec![0]].concat(), 4, 20)), (6, 0, 1));
 }
 
 #[test]
@@ -50,21 +50,21 @@ fn rows_7_to_9() {
     let end_3 = chart(&[1, 2, 4], &[[0, 1, 5, 10], [1, 3, 0, 4], [2, 0, 20, 65_535]]);
     let slot_5_to_4 = chart(&[1, 2, 4], &[[0, 1, 5, 10], [1, 2, 0, 4], [2, 0, 5, 4]]);
     let fewest_65535 = chart(&[0], &[[0, 0, 1, 1], [0, 0, 65_535, 65_535]]);
-    assert_eq!(of_chart(&end_3), (7, 1));
-    assert_eq!(of_chart(&slot_5_to_4), (8, 2));
-    assert_eq!(of_chart(&fewest_65535), (8, 1));
-    assert_eq!(of_chart(&chart(&[0, 0], &[[0, 0, 1, 1]])), (9, 1));
+    assert_eq!(of_chart(&end_3), (7, 1, 1));
+    assert_eq!(of_chart(&slot_5_to_4), (8, 2, 1));
+    assert_eq!(of_chart(&fewest_65535), (8, 1, 1));
+    assert_eq!(of_chart(&chart(&[0, 0], &[[0, 0, 1, 1]])), (9, 1, 1));
 }
 
 #[test]
 fn rows_10_to_13() {
     let three = rule(&[TRUE, TRUE, (3, 0, 0, 1, 0)]);
-    assert_eq!(of_rule(&[]), (10, 0));
-    assert_eq!(of_rule(&altered(three.clone(), 0, 0)), (11, 0));
-    assert_eq!(of_rule(&three[..30]), (12, 0));
-    assert_eq!(of_rule(&rule(&vec![TRUE; 65])), (13, 0));
-    assert_eq!(of_rule(&rule(&[])), (13, 0));
-    assert_eq!(of_rule(&altered(three, 6, 2)), (13, 0));
+    assert_eq!(of_rule(&[]), (10, 0, 3));
+    assert_eq!(of_rule(&altered(three.clone(), 0, 0)), (11, 0, 3));
+    assert_eq!(of_rule(&three[..30]), (12, 0, 3));
+    assert_eq!(of_rule(&rule(&vec![TRUE; 65])), (13, 0, 3));
+    assert_eq!(of_rule(&rule(&[])), (13, 0, 3));
+    assert_eq!(of_rule(&altered(three, 6, 2)), (13, 0, 3));
 }
 
 #[test]
@@ -73,26 +73,26 @@ fn row_14() {
     let wrong_kinds = [(0, 1, 0, 0, 0), (1, 2, 0, 0, 0), (4, 1, 0, 0, 0), (5, 0, 0, 0, 0), (6, 3, 0, 0, 0)];
     let unused = [(0, 0, 1, 0, 0), (1, 0, 0, 1, 0), (2, 0, 0, 1, 0), (2, 0, 0, 0, 1), (3, 0, 0, 0, 1)];
     for node in [[unknown, label(16)].as_slice(), &wrong_kinds, &unused].concat() {
-        assert_eq!(of_rule(&rule(&[node])), (14, 0), "{node:?}");
-        assert_eq!(of_rule(&rule(&[TRUE, node, node])), (14, 1), "{node:?}");
+        assert_eq!(of_rule(&rule(&[node])), (14, 0, 3), "{node:?}");
+        assert_eq!(of_rule(&rule(&[TRUE, node, node])), (14, 1, 3), "{node:?}");
     }
 }
 
 #[test]
 fn rows_15_and_16() {
-    assert_eq!(of_rule(&rule(&[not(0)])), (15, 0));
-    assert_eq!(of_rule(&rule(&[TRUE, (5, 1, 0, 1, 3)])), (15, 1));
-    assert_eq!(of_rule(&rule(&[TRUE, (3, 0, 0, 0, 0)])), (16, 0));
-    assert_eq!(of_rule(&rule(&[TRUE, TRUE, not(0)])), (16, 1));
+    assert_eq!(of_rule(&rule(&[not(0)])), (15, 0, 3));
+    assert_eq!(of_rule(&rule(&[TRUE, (5, 1, 0, 1, 3)])), (15, 1, 3));
+    assert_eq!(of_rule(&rule(&[TRUE, (3, 0, 0, 0, 0)])), (16, 0, 3));
+    assert_eq!(of_rule(&rule(&[TRUE, TRUE, not(0)])), (16, 1, 3));
 }
 
 #[test]
 fn rows_17_to_19() {
     let three = rule(&[TRUE, TRUE, (3, 0, 0, 1, 0)]);
-    assert_eq!(with_room(&short(), &three, 8, 12), (17, 0));
-    assert_eq!(with_room(&short(), &three, 9, 11), (18, 0));
-    assert_eq!(with_room(&short(), &three, 9, 12), (0, 0));
-    assert_eq!(of_chart(&chart(&[0], &[[0, 0, 0, 0]])), (19, 0));
+    assert_eq!(with_room(&short(), &three, 8, 12), (17, 0, 5));
+    assert_eq!(with_room(&short(), &three, 9, 11), (18, 0, 5));
+    assert_eq!(with_room(&short(), &three, 9, 12), (0, 0, 0));
+    assert_eq!(of_chart(&chart(&[0], &[[0, 0, 0, 0]])), (19, 0, 1));
 }
 
 /// The lowest number wins, whatever the order of the offenders in the bytes.
@@ -100,9 +100,9 @@ fn rows_17_to_19() {
 fn number_order() {
     let late_7 = chart(&[0, 0], &[[0, 0, 5, 4], [0, 9, 0, 0]]);
     let looped = chart(&[0], &[[0, 0, 0, 0]]);
-    assert_eq!(of_chart(&late_7), (7, 1));
-    assert_eq!(with_room(&looped, &[], 0, 0), (10, 0));
-    assert_eq!(with_room(&looped, &rule(&[TRUE]), 0, 0), (17, 0));
-    assert_eq!(with_room(&looped, &rule(&[TRUE]), 1, 0), (18, 0));
-    assert_eq!(of_rule(&rule(&[not(0), label(16)])), (14, 1));
+    assert_eq!(of_chart(&late_7), (7, 1, 1));
+    assert_eq!(with_room(&looped, &[], 0, 0), (10, 0, 3));
+    assert_eq!(with_room(&looped, &rule(&[TRUE]), 0, 0), (17, 0, 5));
+    assert_eq!(with_room(&looped, &rule(&[TRUE]), 1, 0), (18, 0, 5));
+    assert_eq!(of_rule(&rule(&[not(0), label(16)])), (14, 1, 3));
 }

@@ -3,6 +3,7 @@
 use crate::formulas::some_formula;
 use crate::make::{label, not, rule, true_l2, NodeFields, Numbers, A, AT_LEAST, AT_MOST, E, TRUE};
 use crate::text_call::{write, write_into};
+use crate::told::told;
 use oracle::kind_of_rule;
 
 fn text(nodes: &[NodeFields]) -> String {
@@ -39,20 +40,19 @@ fn the_rule_s_own_refusals() {
     let altered = |at: usize, byte: u8| [&three[..at], &[byte], &three[at + 1..]].concat();
     assert_eq!(write(&three), Ok(b"A(true U<=14 L2)".to_vec()));
     for (refused, answer) in [
-        (vec![], (10, 0)),
-        (three[..6].to_vec(), (10, 0)),
-        (altered(0, 0), (11, 0)),
-        (three[..30].to_vec(), (12, 0)),
-        (rule(&[TRUE; 65]), (13, 0)),
-        (altered(6, 2), (13, 0)),
-        (rule(&[label(16)]), (14, 0)),
-        (altered(24, 3), (14, 2)),
-        (rule(&[not(0)]), (15, 0)),
-        (rule(&[TRUE, (3, 0, 0, 0, 0)]), (16, 0)),
-        (rule(&[TRUE, TRUE]), (16, 0)),
+        (vec![], (10, 0, 3)),
+        (three[..6].to_vec(), (10, 0, 3)),
+        (altered(0, 0), (11, 0, 3)),
+        (three[..30].to_vec(), (12, 0, 3)),
+        (rule(&[TRUE; 65]), (13, 0, 3)),
+        (altered(6, 2), (13, 0, 3)),
+        (rule(&[label(16)]), (14, 0, 3)),
+        (altered(24, 3), (14, 2, 3)),
+        (rule(&[not(0)]), (15, 0, 3)),
+        (rule(&[TRUE, (3, 0, 0, 0, 0)]), (16, 0, 3)),
+        (rule(&[TRUE, TRUE]), (16, 0, 3)),
     ] {
-        let outcome = kind_of_rule(&refused).outcome;
-        assert_eq!((outcome.number, outcome.place), answer, "{refused:?}");
+        assert_eq!(told(kind_of_rule(&refused).outcome), answer, "{refused:?}");
         assert_eq!(write(&refused), Err(answer), "{refused:?}");
         assert_eq!(write_into(&refused, 0), Err(answer), "{refused:?}");
     }
@@ -68,8 +68,8 @@ fn output_short() {
         let (text, rule) = (formula.text().into_bytes(), formula.rule(&mut || false));
         assert_eq!(write_into(&rule, text.len()), Ok(text.clone()));
         assert_eq!(write_into(&rule, text.len() + 1), Ok(text.clone()));
-        assert_eq!(write_into(&rule, text.len() - 1), Err((66, 0)));
-        assert_eq!(write_into(&rule, 0), Err((66, 0)));
+        assert_eq!(write_into(&rule, text.len() - 1), Err((66, 0, 5)));
+        assert_eq!(write_into(&rule, 0), Err((66, 0, 5)));
     }
 }
 

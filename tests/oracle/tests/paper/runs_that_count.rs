@@ -107,12 +107,12 @@ impl Small {
     fn compare(&self) -> bool {
         let runs: Vec<(bool, bool)> = (0..self.labels.len() as u16).map(|state| self.runs_that_count(state)).collect();
         let without = runs.iter().position(|&run| run == (false, false));
-        let (number, place) = without.map_or((0, 0), |state| (19, state as u32));
+        let (number, place, entry) = without.map_or((0, 0, 0), |state| (19, state as u32, 1));
         let marked = |holds: fn(&(bool, bool)) -> bool| match without {
             Some(_) => vec![7; runs.len()],
             None => runs.iter().map(|run| u8::from(holds(run))).collect(),
         };
-        let outcome = Outcome { number, place };
+        let outcome = Outcome { number, place, entry };
         assert_eq!(self.called(E), (outcome, marked(|run| run.0)), "{self:?}");
         assert_eq!(self.called(A), (outcome, marked(|run| !run.1)), "{self:?}");
         without.is_none()

@@ -1,10 +1,11 @@
 //! Calls of show, each judged as well.
 
+use crate::told::told;
 use oracle::{judge_show, show, ShowCall, Written};
 
-/// Number, place and bytes written, and the buffers afterwards. Lent were marks of 7, scratch of 9 and output of 5.
+/// Number, place, entry and bytes written, and the buffers afterwards. Lent were marks of 7, scratch of 9 and output of 5.
 pub struct Called {
-    pub answer: (u32, u32, usize),
+    pub answer: (u32, u32, u32, usize),
     pub marks: Vec<u8>,
     pub scratch: Vec<u32>,
     pub output: Vec<u8>,
@@ -20,7 +21,8 @@ pub fn call(chart: &[u8], rule: &[u8], node: usize, state: usize, [marks, scratc
     let lent = ShowCall { chart, rule, marks: &lent.0, scratch: &lent.1, node, state, output: &lent.2 };
     assert_eq!(judge_show(&lent, answer, &marks, &scratch, &output), Ok(()));
     let Written { outcome, written } = answer;
-    Called { answer: (outcome.number, outcome.place, written), marks, scratch, output }
+    let (number, place, entry) = told(outcome);
+    Called { answer: (number, place, entry, written), marks, scratch, output }
 }
 
 /// Room for every run.
@@ -30,7 +32,7 @@ pub fn with_room(chart: &[u8], rule: &[u8], node: usize, state: usize) -> Called
 
 /// The states and durations of the run.
 pub fn run_of(chart: &[u8], rule: &[u8], node: usize, state: usize) -> Vec<(u16, u32)> {
-    let Called { answer: (number, _, written), output, .. } = with_room(chart, rule, node, state);
+    let Called { answer: (number, _, _, written), output, .. } = with_room(chart, rule, node, state);
     assert_eq!(number, 0);
     let positions = output[..written].chunks(6);
     positions.map(|at| (u16::from_be_bytes([at[0], at[1]]), u32::from_be_bytes(at[2..].try_into().unwrap()))).collect()

@@ -8,7 +8,7 @@ use oracle::fewest_steps;
 #[test]
 fn short_within_5() {
     let called = with_room(&short(), &true_l2(E, AT_MOST, 5), 2, 0);
-    assert_eq!(called.answer, (0, 0, 18));
+    assert_eq!(called.answer, (0, 0, 0, 18));
     assert_eq!(called.output[..18], [0, 0, 0, 0, 0, 5, 0, 1, 0, 0, 0, 0, 0, 2, 0, 0, 0, 0]);
 }
 
@@ -38,9 +38,9 @@ fn q_without_p_in_time_is_met() {
     let rule = l0_l1(A, AT_MOST, 5);
     let both = chart(&labels, &[[0, 1, 1, 1], [0, 0, 1, 1], [0, 2, 1, 1], [1, 2, 1, 1], [2, 2, 1, 1]]);
     assert_eq!(run_of(&both, &rule, 2, 0), [(0, 1), (2, 0)]);
-    assert_eq!(with_room(&both, &rule, 2, 1).answer, (60, 0, 0));
+    assert_eq!(with_room(&both, &rule, 2, 1).answer, (60, 0, 3, 0));
     let only_q = chart(&labels, &[[0, 1, 1, 1], [1, 2, 1, 1], [2, 2, 1, 1]]);
-    assert_eq!(with_room(&only_q, &rule, 2, 0).answer, (60, 0, 0));
+    assert_eq!(with_room(&only_q, &rule, 2, 0).answer, (60, 0, 3, 0));
 }
 
 /// One step of 5 minutes, not two of none.
@@ -98,18 +98,18 @@ fn runs_without_a_step() {
         (l0_l1(A, AT_MOST, 65_535), 0),
     ] {
         let called = with_room(&chart(&[labels], &[[0, 0, 1, 1]]), &rule, 2, 0);
-        assert_eq!((called.answer, &called.output[..7]), ((0, 0, 6), [0, 0, 0, 0, 0, 0, 5].as_slice()));
+        assert_eq!((called.answer, &called.output[..7]), ((0, 0, 0, 6), [0, 0, 0, 0, 0, 0, 5].as_slice()));
     }
 }
 
 #[test]
 fn the_longest_run() {
     let called = with_room(&one(), &true_true(E, AT_LEAST, 256), 2, 0);
-    assert_eq!(called.answer, (0, 0, 1_542));
+    assert_eq!(called.answer, (0, 0, 0, 1_542));
     assert_eq!(run_of(&one(), &true_true(E, AT_LEAST, 256), 2, 0), [vec![(0, 1); 256], vec![(0, 0)]].concat());
     for c in [257, 65_535] {
         assert_eq!(fewest_steps(&one(), &true_true(E, AT_LEAST, c), 2, 0), Some(usize::from(c)));
-        assert_eq!(with_room(&one(), &true_true(E, AT_LEAST, c), 2, 0).answer, (62, 0, 0));
+        assert_eq!(with_room(&one(), &true_true(E, AT_LEAST, c), 2, 0).answer, (62, 0, 5, 0));
     }
 }
 

@@ -13,7 +13,7 @@ fn stay(slot: [u16; 2]) -> Vec<u8> {
 fn back_and_forth() {
     let chart = chart(&[1, 2], &[[0, 1, 0, 3], [1, 0, 0, 3]]);
     assert_eq!(run_of(&chart, &l0_l1(A, AT_MOST, 2), 2, 0), [(0, 3), (1, 0)]);
-    assert_eq!(with_room(&chart, &l0_l1(A, AT_MOST, 3), 2, 0).answer, (60, 0, 0));
+    assert_eq!(with_room(&chart, &l0_l1(A, AT_MOST, 3), 2, 0).answer, (60, 0, 3, 0));
     assert_eq!(run_of(&chart, &l0_l1(E, AT_MOST, 0), 2, 0), [(0, 0), (1, 0)]);
 }
 
@@ -21,10 +21,10 @@ fn back_and_forth() {
 #[test]
 fn a_stay_in_no_time() {
     for c in [0, 9, 65_535] {
-        assert_eq!(with_room(&stay([0, 0]), &l0_l1(A, AT_MOST, c), 2, 0).answer, (60, 0, 0), "{c}");
+        assert_eq!(with_room(&stay([0, 0]), &l0_l1(A, AT_MOST, c), 2, 0).answer, (60, 0, 3, 0), "{c}");
         assert_eq!(run_of(&stay([0, 0]), &l0_l1(E, AT_MOST, c), 2, 0), [(0, 0), (1, 0)], "{c}");
     }
-    assert_eq!(with_room(&stay([0, 0]), &l0_l1(E, AT_LEAST, 1), 2, 0).answer, (60, 0, 0));
+    assert_eq!(with_room(&stay([0, 0]), &l0_l1(E, AT_LEAST, 1), 2, 0).answer, (60, 0, 3, 0));
 }
 
 /// As few steps as the most allows.

@@ -4,7 +4,7 @@ use crate::text_call::read;
 
 fn at(text: impl AsRef<[u8]>, place: u32) {
     let text = text.as_ref();
-    assert_eq!(read(text), Err((64, place)), "{}", String::from_utf8_lossy(text));
+    assert_eq!(read(text), Err((64, place, 3)), "{}", String::from_utf8_lossy(text));
 }
 
 fn taken(text: &str) {

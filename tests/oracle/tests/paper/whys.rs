@@ -47,13 +47,15 @@ fn no_end() {
 
 #[test]
 fn refusals() {
-    own(&[], &[], 0, "refused 1 at 0\n");
-    own(&short(), &[], 0, "refused 10 at 0\n");
-    own(&short(), &true_l2(E, AT_MOST, 4), 0, "refused 60 at 0\n");
-    own(&short(), &true_l2(E, AT_MOST, 5), 3, "refused 60 at 0\n");
-    own(&one(), &true_true(E, AT_LEAST, 257), 0, "refused 62 at 0\n");
-    own(&chart(&[0], &[[0, 0, 0, 0]]), &true_true(E, AT_MOST, 0), 0, "refused 19 at 0\n");
-    assert!(judge_why(&short(), &true_l2(E, AT_MOST, 4), 2, 0, "refused 61 at 0\n").is_err());
+    own(&[], &[], 0, "refused 1 at 0 1\n");
+    own(&short(), &[], 0, "refused 10 at 0 3\n");
+    own(&short(), &true_l2(E, AT_MOST, 4), 0, "refused 60 at 0 3\n");
+    own(&short(), &true_l2(E, AT_MOST, 5), 3, "refused 60 at 0 3\n");
+    own(&one(), &true_true(E, AT_LEAST, 257), 0, "refused 62 at 0 5\n");
+    own(&chart(&[0], &[[0, 0, 0, 0]]), &true_true(E, AT_MOST, 0), 0, "refused 19 at 0 1\n");
+    for wrong in ["refused 61 at 0 3\n", "refused 60 at 1 3\n", "refused 60 at 0 5\n", "refused 60 at 0\n"] {
+        assert!(judge_why(&short(), &true_l2(E, AT_MOST, 4), 2, 0, wrong).is_err(), "{wrong}");
+    }
     assert!(judge_why(&short(), &true_l2(E, AT_MOST, 4), 2, 0, SHORT_WITHIN_5).is_err());
 }
 
@@ -70,7 +72,7 @@ fn wrong_texts() {
     for text in [
         "",
         "\n",
-        "refused 60 at 0\n",
+        "refused 60 at 0 3\n",
         "0 at 0: 5 minutes to 1\n1 at 5: 0 minutes to 2\n2 at 5: until met at 5",
         "0 at 0: 5 minutes to 1\n1 at 5: 0 minutes to 2\n2 at 5: until met at 5\n\n",
         "0 at 0: 5 minutes to 1\r\n1 at 5: 0 minutes to 2\r\n2 at 5: until met at 5\r\n",
@@ -86,7 +88,7 @@ fn wrong_texts() {
         "0 at 0: 5 minutes to 1\n1 at 5: 1 minutes to 2\n2 at 6: until met at 6\n",
         "1 at 0: 0 minutes to 2\n2 at 0: until met at 0\n",
         "0 at 0: x minutes to 1\n1 at 5: 0 minutes to 2\n2 at 5: until met at 5\n",
-        "refused 0 at 0\n0 at 0: 5 minutes to 1\n1 at 5: 0 minutes to 2\n2 at 5: until met at 5\n",
+        "refused 0 at 0 0\n0 at 0: 5 minutes to 1\n1 at 5: 0 minutes to 2\n2 at 5: until met at 5\n",
     ] {
         assert!(judge_why(&short(), &true_l2(E, AT_MOST, 5), 2, 0, text).is_err(), "{text:?}");
     }

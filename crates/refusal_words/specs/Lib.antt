@@ -1,0 +1,3 @@
+pub mod Bytes
+pub mod Sentences
+pub mod Words
