@@ -183,7 +183,7 @@ doilystrand_arrow_words doilystrand_arrow(const uint8_t *chart, size_t chart_siz
 /*
  * What an outcome says in words: the papers' own sentence ("state without an outgoing arrow"), which paper was wrong
  * ("chart or detail"), and what the place counts ("state"), empty where the papers name no place. Of success, and of a
- * number that no paper has, the sentence is empty.
+ * number that no call answers, the sentence is empty.
  */
 doilystrand_words doilystrand_words_of(doilystrand_outcome outcome);
 

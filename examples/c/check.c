@@ -30,8 +30,11 @@ int main(int count, char **words) {
                                               scratch, DOILYSTRAND_MAX_SCRATCH);
     if (o.number != 0) {
         doilystrand_words w = doilystrand_words_of(o);
-        fprintf(stderr, "refused %u at %u %u: %s (%s)\n", (unsigned)o.number, (unsigned)o.place, (unsigned)o.entry,
+        fprintf(stderr, "refused %u at %u %u: %s (%s", (unsigned)o.number, (unsigned)o.place, (unsigned)o.entry,
                 w.sentence, w.paper);
+        if (w.counts[0] != 0)
+            fprintf(stderr, ", %s %u", w.counts, (unsigned)o.place);
+        fprintf(stderr, ")\n");
         return 1;
     }
     /* How many states and nodes there are stands in bytes 5 and 6. The rule itself is its last node. */

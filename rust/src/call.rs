@@ -11,6 +11,7 @@ pub struct CodedWritten {
 
 /// The words of an outcome, each filled up with zeros, one at least.
 #[repr(C)]
+#[derive(Clone, Debug)]
 pub struct CodedWords {
     pub sentence: [u8; 128],
     pub paper: [u8; 16],

@@ -78,6 +78,9 @@ mod tests {
     fn kinds_are_told() {
         assert_eq!(kind_of_rule(WITHIN_13).kind, Kind::AllRuns);
         assert_eq!(kind_of_rule(&largest_rule()).kind, Kind::Both);
-        assert_eq!(kind_of_rule(&[]), KindAnswer { outcome: Outcome { number: 10, place: 0, entry: 3 }, kind: Kind::Neither });
+        assert_eq!(
+            kind_of_rule(&[]),
+            KindAnswer { outcome: Outcome { number: 10, place: 0, entry: 3 }, kind: Kind::Neither }
+        );
     }
 }

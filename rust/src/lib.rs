@@ -1,7 +1,7 @@
 //! Safe calls into the proved checker of timed rules over dispatch charts.
 //!
-//! The library takes any bytes and tests them itself, so no input is tested here. Answers are: a number, an entry, a kind, a
-//! place in a table, a count of bytes written, a byte of a text, or a mark of [`marks`](marks()), that the library
+//! The library takes any bytes and tests them itself, so no input is tested here. Answers are: a number, a refusal without a
+//! paper, a kind, a place in a table, a count of bytes written, a byte of a text, or a mark of [`marks`](marks()), that the library
 //! promises never to give ends in a panic that names it. What is promised of each call stands in `docs/PROMISES.md`,
 //! the formats in `README.md`.
 //!

@@ -36,7 +36,10 @@ impl Outcome {
         } else {
             numbers.iter().any(|range| range.contains(&number)) && (1..=5).contains(&entry)
         };
-        assert!(known, "the library answers number {number} at place {place} with entry {entry}, which this call never does");
+        assert!(
+            known,
+            "the library answers number {number} at place {place} with entry {entry}, which this call never does"
+        );
         self
     }
 

@@ -36,15 +36,19 @@ pub fn read_rule<'a>(text: &[u8], output: &'a mut [u8]) -> Result<&'a [u8], Refu
 mod tests {
     use super::*;
     use crate::samples::WITHIN_13;
+    use crate::Outcome;
 
     const LENT: [u8; 40] = [77; 40];
 
-    /// What is written, or number and place; so much output is lent, and what is not written is kept.
-    fn read(text: &str, output: usize) -> Result<Vec<u8>, (u32, u32)> {
+    /// What is written, or number, place and entry; so much output is lent, and what is not written is kept.
+    fn read(text: &str, output: usize) -> Result<Vec<u8>, (u32, u32, u32)> {
         let mut lent = LENT;
         let rule = read_rule(text.as_bytes(), &mut lent[..output]).map(<[u8]>::to_vec);
         assert_eq!(lent[rule.as_ref().map_or(0, Vec::len)..], LENT[rule.as_ref().map_or(0, Vec::len)..]);
-        rule.map_err(|refusal| (refusal.outcome().number, refusal.outcome().place))
+        rule.map_err(|refusal| {
+            let Outcome { number, place, entry } = refusal.outcome();
+            (number, place, entry)
+        })
     }
 
     #[test]
@@ -56,11 +60,11 @@ mod tests {
 
     #[test]
     fn refusals_are_given() {
-        assert_eq!(read("", 40), Err((64, 0)));
-        assert_eq!(read("A(true U<=13 L2", 40), Err((64, 15)));
-        assert_eq!(read("A(true U<=13 L2)\n", 40), Err((64, 16)));
-        assert_eq!(read("A(true U<=13 L2)", 30), Err((66, 0)));
-        assert_eq!(read("true", 0), Err((66, 0)));
-        assert_eq!(read(&("!".repeat(64) + "true"), 0), Err((65, 0)));
+        assert_eq!(read("", 40), Err((64, 0, 3)));
+        assert_eq!(read("A(true U<=13 L2", 40), Err((64, 15, 3)));
+        assert_eq!(read("A(true U<=13 L2)\n", 40), Err((64, 16, 3)));
+        assert_eq!(read("A(true U<=13 L2)", 30), Err((66, 0, 5)));
+        assert_eq!(read("true", 0), Err((66, 0, 5)));
+        assert_eq!(read(&("!".repeat(64) + "true"), 0), Err((65, 0, 3)));
     }
 }

@@ -11,6 +11,7 @@ use crate::Outcome;
 /// assert_eq!(words.paper(), "chart or detail");
 /// assert_eq!(words.counts(), "state");
 /// ```
+#[derive(Clone, Debug)]
 pub struct Words {
     coded: CodedWords,
 }
@@ -25,7 +26,8 @@ impl Outcome {
 }
 
 impl Words {
-    /// What is wrong, `"state without an outgoing arrow"` for one; empty for success, and for a number that no paper has.
+    /// What is wrong, `"state without an outgoing arrow"` for one; empty for success, and for a number that no call
+    /// answers.
     #[must_use]
     pub fn sentence(&self) -> &str {
         text(&self.coded.sentence)
@@ -70,7 +72,7 @@ mod tests {
     }
 
     #[test]
-    fn what_no_paper_has_is_empty() {
+    fn what_no_call_answers_is_empty() {
         assert_eq!(told(0, 0), ["", "none", ""]);
         for number in [24, 40, 67, 99, u32::MAX] {
             assert_eq!(told(number, 6), ["", "", ""]);

@@ -41,15 +41,19 @@ fn ascii(text: &[u8]) -> &str {
 mod tests {
     use super::*;
     use crate::samples::WITHIN_13;
+    use crate::Outcome;
 
     const LENT: [u8; 20] = [77; 20];
 
-    /// What is written, or number and place; so much output is lent, and what is not written is kept.
-    fn write(rule: &[u8], output: usize) -> Result<String, (u32, u32)> {
+    /// What is written, or number, place and entry; so much output is lent, and what is not written is kept.
+    fn write(rule: &[u8], output: usize) -> Result<String, (u32, u32, u32)> {
         let mut lent = LENT;
         let text = write_rule(rule, &mut lent[..output]).map(str::to_string);
         assert_eq!(lent[text.as_ref().map_or(0, String::len)..], LENT[text.as_ref().map_or(0, String::len)..]);
-        text.map_err(|refusal| (refusal.outcome().number, refusal.outcome().place))
+        text.map_err(|refusal| {
+            let Outcome { number, place, entry } = refusal.outcome();
+            (number, place, entry)
+        })
     }
 
     #[test]
@@ -64,13 +68,13 @@ mod tests {
 
     #[test]
     fn refusals_are_given() {
-        assert_eq!(write(WITHIN_13, 15), Err((66, 0)));
-        assert_eq!(write(WITHIN_13, 0), Err((66, 0)));
-        assert_eq!(write(&[], 0), Err((10, 0)));
-        assert_eq!(write(&WITHIN_13[..30], 20), Err((12, 0)));
+        assert_eq!(write(WITHIN_13, 15), Err((66, 0, 5)));
+        assert_eq!(write(WITHIN_13, 0), Err((66, 0, 5)));
+        assert_eq!(write(&[], 0), Err((10, 0, 3)));
+        assert_eq!(write(&WITHIN_13[..30], 20), Err((12, 0, 3)));
         let mut label_16 = WITHIN_13.to_vec();
         label_16[18] = 16;
-        assert_eq!(write(&label_16, 0), Err((14, 1)));
+        assert_eq!(write(&label_16, 0), Err((14, 1, 3)));
     }
 
     #[test]

@@ -299,7 +299,7 @@ static void words_are_told(void) {
     expect(says(9, 2, 1, "state without an outgoing arrow", "chart or detail", "state"), "9 has other words");
     expect(says(1, 0, 2, "chart under 9 bytes", "overview", ""), "1 of the overview has other words");
     expect(says(0, 0, 0, "", "none", ""), "success has words");
-    expect(says(67, 0, 6, "", "", ""), "a number that no paper has has words");
+    expect(says(67, 0, 6, "", "", ""), "a number that no call answers has words");
 }
 
 static void rows_are_found(void) {

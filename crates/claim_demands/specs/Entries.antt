@@ -26,7 +26,7 @@ Follows r = r .entry ≡ entryOf (r .number)
 
 -- of map check, whose answers about the overview are the only ones that carry another
 pub record MapFollows (d o : List ℕ) (r : Outcome) : Type 0 where
-  -- the detail is refused, or neither chart is
+  -- the detail is refused, or the overview is not
   pub own : ¬ (acceptedRefusal d .number ≡ 0) ⊎ (acceptedRefusal o .number ≡ 0) → Follows r
   -- "Overview refusals then use the chart numbers 1 to 9 and 19": a number that carries 1 for a chart by itself
   pub other :

@@ -20,7 +20,7 @@ code AllRuns = 1
 code SomeRun = 2
 code Both = 3
 
--- kind of rule's whole answer: the rule's number and place, and the code of the kinds it is of
+-- kind of rule's whole answer: the rule's outcome, and the code of the kinds it is of
 pub record Coded (s : List ℕ) (r : CodedAnswer) : Type 0 where
   pub outcome : r .outcome ≡ ruleRefusal s
   pub kind : r .kind ≡ code (kindFor (ruleIs s allRuns) (ruleIs s someRun))

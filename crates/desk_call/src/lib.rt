@@ -65,8 +65,8 @@ fn report_files(chart: &[u8], i: usize, rule: &[u8], j: usize, out: &mut [u8]) -
     report(&chart[..i], &rule[..j], out)
 }
 
-// Reads desk.cht and desk.rul, prints the report, and tells a refusal. A file longer than any accepted is read for one byte more than
-// the longest, and so refused.
+// Reads desk.cht and desk.rul, prints the report, and tells a refusal. A file longer than any accepted is read for one
+// byte more than the longest, and so refused.
 pub fn run() {
     let mut chart = [0; CHART];
     let mut rule = [0; RULE];

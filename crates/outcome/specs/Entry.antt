@@ -27,7 +27,7 @@ buffer = 5
 pub data Carry : Type 0 where
   carry : ℕ → ℕ → ℕ → Carry
 
--- every number of the papers. A chart's own are the overview's too, which then carry its entry.
+-- every number that a call answers. A chart's own are the overview's too, which then carry its entry.
 abbrev pub entries : List Carry
 entries =
     carry 1 9 chartOrDetail ∷

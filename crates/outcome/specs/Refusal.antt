@@ -6,11 +6,11 @@ use Prim.Native.Nat.{ℕ, zero, suc}
 use lib.ListN.{take, drop}
 use lib.Dec.{ltb}
 use Rattle.outcome.specs.declared.Outcome.{Outcome}
-use Rattle.outcome.specs.Entry.{entryOf}
+use Rattle.outcome.specs.Entry.{noneWrong, entryOf}
 
 -- "Success is number 0, place 0.", "0 none"
 abbrev pub success : Outcome
-success = record { number = 0; place = 0; entry = 0 }
+success = record { number = 0; place = 0; entry = noneWrong }
 
 -- "Refused with number and place", and "a third entry"
 abbrev pub outcome : ℕ → ℕ → ℕ → Outcome

@@ -17,7 +17,8 @@ pub record Sentence : Type 0 where
 abbrev pub says : ℕ → String → String → Sentence
 says number counts condition = record { number = number; counts = counts; condition = condition }
 
--- 01's table, row 19 as of 02, paper 4, and 02's papers 1, 2 and 5
+-- 01's table, row 19 as of 02, paper 4, and 02's papers 1, 2 and 5; 18, 60, 61 and 65 are put together from the papers'
+-- words, so that each can be understood alone
 abbrev pub sentences : List Sentence
 sentences =
     says 1 "" "chart under 9 bytes" ∷
@@ -45,7 +46,7 @@ sentences =
     says 22 "detail state" "labels differ" ∷
     says 23 "detail arrow" "arrow not covered" ∷
     says 60 ""
-    "node or state out of range or not such a mark: a marked E-until, or an unmarked A-until bounded by \"at most\"" ∷
+    "node or state out of range or not such a mark: a marked E-until node, or an unmarked A-until node bounded by \"at most\"" ∷
     says 61 "" "scratch under 257 × n numbers" ∷
     says 62 "" "no true run of at most 256 steps fits the output" ∷
     says 63 "node" "a bound above 255" ∷
@@ -74,7 +75,7 @@ texts (s ∷ rest) = pair s ++ texts rest
 unfoldable pub listed : List ℕ
 listed = onLines (texts sentences)
 
--- the row of a number that no paper has says nothing
+-- the row of a number that no call answers says nothing
 abbrev pub silent : Sentence
 silent = says 0 "" ""
 

@@ -34,7 +34,8 @@ fn print_usage() {
     );
 }
 
-// Reads desk.rul as the desk program does, prints the line, and tells a refusal. There is no argument but the program's name.
+// Reads desk.rul as the desk program does, prints the line, and tells a refusal. There is no argument but the program's
+// name.
 pub fn run() {
     if os::arg_count() != 1 {
         print_usage();

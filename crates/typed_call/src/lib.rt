@@ -100,7 +100,8 @@ fn print_usage() {
     );
 }
 
-// Reads a text, and writes desk.rul or prints and tells what is wrong with the text. There is no argument but the program's name.
+// Reads a text, and writes desk.rul or prints and tells what is wrong with the text. There is no argument but the
+// program's name.
 pub fn run() {
     if os::arg_count() != 1 {
         print_usage();

@@ -22,10 +22,10 @@
 mod bytes;
 mod calls;
 mod cases;
-#[cfg(test)]
-mod entry_counts;
 mod named;
 mod options;
+#[cfg(test)]
+mod other_entry;
 mod programs;
 mod random;
 

@@ -45,10 +45,7 @@ fn wrong(met: Outcome, words: &Words) -> Vec<String> {
 pub fn compare(met: &[Outcome], words: impl Fn(Outcome) -> Words) -> Result<usize, Vec<String>> {
     let mut all: Vec<String> = met.iter().flat_map(|&outcome| wrong(outcome, &words(outcome))).collect();
     let numbers: BTreeSet<u32> = met.iter().map(|outcome| outcome.number).collect();
-    let told = |number: &u32| {
-        let outcomes = (0..PAPERS.len() as u32).map(|entry| Outcome { number: *number, place: 0, entry });
-        outcomes.into_iter().any(|outcome| !words(outcome).sentence.is_empty())
-    };
+    let told = |&number: &u32| !words(Outcome { number, place: 0, entry: 0 }).sentence.is_empty();
     let unmet = (0..=HIGHEST).filter(|number| !numbers.contains(number)).filter(told);
     all.extend(unmet.map(|number| format!("number {number} has a sentence and was never met")));
     let refusals = numbers.iter().filter(|&&number| number != 0).count();
@@ -61,7 +58,7 @@ pub fn compare(met: &[Outcome], words: impl Fn(Outcome) -> Words) -> Result<usiz
 
 #[cfg(test)]
 mod tests {
-    use super::{compare, Outcome, Words};
+    use super::{compare, Outcome, Words, PAPERS};
 
     const MET: [Outcome; 4] = [
         Outcome::ACCEPTED,
@@ -74,7 +71,7 @@ mod tests {
     fn told(numbers: &'static [u32], placed: u32) -> impl Fn(Outcome) -> Words {
         move |Outcome { number, entry, .. }| {
             let sentence = if numbers.contains(&number) { "a sentence" } else { "" };
-            let paper = ["none", "chart or detail", "overview", "rule", "map", "a buffer"][entry as usize];
+            let paper = PAPERS[entry as usize];
             let counts = if number == placed { "state" } else { "" };
             Words { sentence: sentence.into(), paper: paper.into(), counts: counts.into() }
         }
