@@ -28,9 +28,9 @@ extern "C" {
 #define DOILYSTRAND_MAX_RULE 519
 #define DOILYSTRAND_MAX_MAP 519
 
-/* Bytes of marks and numbers of scratch that are enough for every check. */
+/* Bytes of marks and numbers of scratch that are enough for every check; 1024 numbers if no bound of the rule is exact. */
 #define DOILYSTRAND_MAX_MARKS 16384
-#define DOILYSTRAND_MAX_SCRATCH 1024
+#define DOILYSTRAND_MAX_SCRATCH 65536
 
 /* Bytes of the longest shown run, 257 positions of 6, and numbers of scratch that are enough for every one. */
 #define DOILYSTRAND_MAX_RUN 1542
@@ -108,8 +108,9 @@ typedef struct doilystrand_arrow_words {
 
 /*
  * Marks every node of the rule at every state of the chart: byte t * n + s of marks is 1 if node t holds at state s,
- * else 0. It wants k * n bytes of marks and 4n numbers of scratch, k and n being bytes 5 to 6 of rule and chart. After
- * acceptance and after refusal 19 the first 4n numbers are 0; everything else is left as lent.
+ * else 0. It wants k * n bytes of marks and 4n numbers of scratch, or 256n if a bound of the rule is exact (kind 3); k and
+ * n are bytes 5 to 6 of rule and chart. After acceptance and after refusal 19 the first so many numbers are 0; everything
+ * else is left as lent.
  */
 doilystrand_outcome doilystrand_check(const uint8_t *chart, size_t chart_size,
                                       const uint8_t *rule, size_t rule_size,
@@ -132,7 +133,7 @@ doilystrand_outcome doilystrand_count(const uint8_t *chart, size_t chart_size,
  * arrow taken from there takes (4), which are 0 at the last position. It has the fewest steps there are, at most 256;
  * which of several runs appears is free. It wants 257n numbers of scratch, and 6 bytes of output for each position.
  * Refused with 60 to 62 the marks are written all the same. The first 257n numbers of scratch are 0 after acceptance and
- * after 62, the first 4n after 19, 60 and 61; everything else is left as lent, in output all that is past the run.
+ * after 62, as many as check's after 19, 60 and 61; everything else is left as lent, in output all that is past the run.
  */
 doilystrand_written doilystrand_show(const uint8_t *chart, size_t chart_size,
                                      const uint8_t *rule, size_t rule_size,

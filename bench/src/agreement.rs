@@ -1,12 +1,13 @@
-//! Library and peer compared on every input of check, of show, of count, and of read and write.
+//! Library and peer compared on every input of check, of show, of count, of exact bounds, and of read and write.
 
+use crate::count::Count;
 use crate::count_agreement::count_agreement;
 use crate::hurried_agreement::hurried_agreement;
 use crate::input::Input;
 use crate::report::{GROWING, GROWTH};
 use crate::show::{self, Lent, Show, POSITIONS};
 use crate::text_agreement::text_agreement;
-use bench::{families, rules, shown, small};
+use bench::{exact, families, rules, shown, small};
 use std::collections::BTreeMap;
 
 /// As many of the drawn charts as take no notable time.
@@ -22,8 +23,23 @@ pub fn agreement() -> Result<(), String> {
     println!("Library and peer give equal outcomes, marks and scratch on all {count} inputs.");
     show_agreement()?;
     count_agreement()?;
+    exact_agreement()?;
     hurried_agreement()?;
     text_agreement()
+}
+
+/// Check and count of exact bounds, and of the same rules with the others.
+fn exact_agreement() -> Result<(), String> {
+    let rows = exact::rows();
+    for row in &rows {
+        for rule in [&row.exact, &row.most, &row.least] {
+            let count = Count::named(row.chart, rule)?;
+            let accepted = count.input.accepted().and_then(|()| count.accepted());
+            accepted.map_err(|why| format!("{}, {rule}: {why}", row.chart))?;
+        }
+    }
+    println!("On all {} inputs of exact bounds library and peers check and count to equal marks.", rows.len());
+    Ok(())
 }
 
 fn show_agreement() -> Result<(), String> {
@@ -35,8 +51,8 @@ fn show_agreement() -> Result<(), String> {
         }
     }
     let mut counts = BTreeMap::new();
-    for seed in 0..DRAWN {
-        for show in asked_of(seed) {
+    for (seed, drawn) in (0..DRAWN).flat_map(|seed| [(seed, Input::drawn as Drawn), (seed, Input::drawn_exact)]) {
+        for show in asked_of(seed, drawn) {
             let agreed = show.agree(|| lent_for(&show));
             let what = || format!("show, seed-{seed}, node {}, state {}", show.node, show.state);
             *counts.entry(agreed.map_err(|why| format!("{}: {why}", what()))?.outcome.number).or_insert(0) += 1;
@@ -48,14 +64,17 @@ fn show_agreement() -> Result<(), String> {
     Ok(())
 }
 
+/// An input by its seed.
+type Drawn = fn(u64) -> Input;
+
 /// Every node of a drawn chart's rule, and one past the last, at about ten states, the first number past them included.
-fn asked_of(seed: u64) -> Vec<Show> {
-    let [n, _, k] = Input::drawn(seed).sizes().map(usize::from);
+fn asked_of(seed: u64, drawn: Drawn) -> Vec<Show> {
+    let [n, _, k] = drawn(seed).sizes().map(usize::from);
     let step = n.div_ceil(10);
     let mut asked = Vec::new();
     for node in 0..=k {
         let states = (node % step..=n).step_by(step).chain([n]);
-        asked.extend(states.map(|state| Show { input: Input::drawn(seed), node, state }));
+        asked.extend(states.map(|state| Show { input: drawn(seed), node, state }));
     }
     asked
 }
@@ -80,6 +99,8 @@ fn inputs() -> Vec<(String, &'static str, usize)> {
         inputs.extend(GROWTH.map(|n| (family.to_string(), "mixed", n)));
     }
     inputs.extend(small::ROWS.map(|(chart, rule)| (chart.to_string(), rule, 256)));
-    inputs.extend((0..DRAWN).map(|seed| (format!("seed-{seed}"), "seed", 256)));
+    for rule in ["seed", "seed-exact"] {
+        inputs.extend((0..DRAWN).map(|seed| (format!("seed-{seed}"), rule, 256)));
+    }
     inputs
 }

@@ -2,7 +2,7 @@
 
 use crate::count::{lent, Count, ROWS};
 use crate::input::{Buffers, Input};
-use bench::counted;
+use bench::{counted, exact};
 use std::collections::BTreeMap;
 
 /// As many of the drawn charts as take no notable time.
@@ -30,15 +30,18 @@ pub fn count_agreement() -> Result<(), String> {
     Ok(())
 }
 
-/// The numbers that all answer to a drawn chart and rule: with the bounds as drawn, with near ones, and with a number
-/// of scratch too few.
-fn drawn(seed: u64) -> Result<[u32; 3], String> {
+/// The numbers that all answer to a drawn chart and rule: with the bounds as drawn, with near ones, with exact ones among
+/// these, and with a number of scratch too few.
+fn drawn(seed: u64) -> Result<[u32; 4], String> {
     let far = Count { input: Input::drawn(seed) };
-    let Input { chart, rule } = Input::drawn(seed);
-    let near = Count { input: Input { chart, rule: counted::near(rule) } };
+    let with = |rule| Count { input: Input { rule, ..Input::drawn(seed) } };
+    let near = with(counted::near(Input::drawn(seed).rule));
+    let exact = with(exact::made_exact(near.input.rule.clone()));
     near.accepted()?;
+    exact.accepted()?;
     let scratch = ROWS * usize::from(near.input.sizes()[0]);
-    let exact = || Buffers::with_scratch(scratch);
+    let enough = || Buffers::with_scratch(scratch);
     let short = || Buffers::with_scratch(scratch - 1);
-    Ok([far.agree(lent)?.number, near.agree(exact)?.number, near.agree(short)?.number])
+    let numbers = [far.agree(lent)?, near.agree(enough)?, exact.agree(enough)?, near.agree(short)?];
+    Ok(numbers.map(|outcome| outcome.number))
 }

@@ -1,7 +1,7 @@
-//! Inputs of count: charts, and rules of 64 nodes whose 31 untils have one bound.
+//! Inputs of count: charts, and rules of 64 nodes whose 31 untils have one bound. Exact bounds are `exact`'s.
 
 use crate::bytes::{self, Node};
-use crate::nodes::{label, not, ALL_RUNS as A, AT_LEAST, AT_MOST, SOME_RUN as E};
+use crate::nodes::{label, not, ALL_RUNS as A, AT_LEAST, AT_MOST, EXACTLY, SOME_RUN as E};
 use crate::{instant, parts};
 
 pub const CHARTS: [&str; 4] = ["parts", "parts-short", "parts-wide", "instant"];
@@ -44,11 +44,12 @@ pub fn rule(name: &str) -> Option<Vec<u8>> {
         "e-least" => tree.grow(E, &[AT_LEAST], 31),
         "a-most" => tree.grow(A, &[AT_MOST], 31),
         "a-least" => tree.grow(A, &[AT_LEAST], 31),
-        "mixed" => {
-            let p = tree.grow(E, &[AT_MOST, AT_LEAST], 15);
-            let q = tree.grow(A, &[AT_MOST, AT_LEAST], 15);
-            tree.until(E, AT_MOST, p, q)
-        }
+        "e-exact" => tree.grow(E, &[EXACTLY], 31),
+        "a-exact" => tree.grow(A, &[EXACTLY], 31),
+        "mixed" => tree.both(&[AT_MOST, AT_LEAST]),
+        "both-most" => tree.both(&[AT_MOST]),
+        "both-least" => tree.both(&[AT_LEAST]),
+        "both-exact" => tree.both(&[EXACTLY]),
         _ => return None,
     };
     tree.push(not(last));
@@ -72,6 +73,12 @@ impl Tree {
             last = self.until(operation, kinds[i % kinds.len()], p, q);
         }
         last
+    }
+
+    /// 15 untils of E and 15 of A, in one more.
+    fn both(&mut self, kinds: &[u8]) -> u16 {
+        let (p, q) = (self.grow(E, kinds, 15), self.grow(A, kinds, 15));
+        self.until(E, kinds[0], p, q)
     }
 
     fn until(&mut self, operation: u8, kind: u8, a: u16, b: u16) -> u16 {

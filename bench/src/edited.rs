@@ -1,6 +1,7 @@
 //! The texts of drawn rules, each as it is and with single edits.
 
 use crate::drawn;
+use crate::exact::made_exact;
 use crate::peer;
 use crate::random::Random;
 use crate::texts::RULE_TEXT;
@@ -27,9 +28,11 @@ fn formula(seed: u64) -> Vec<u8> {
     drawn_text(seed)
 }
 
+/// Every other one has exact bounds.
 fn drawn_text(seed: u64) -> Vec<u8> {
     let mut text = vec![0; RULE_TEXT];
-    let written = peer::write_rule(&drawn::rule(seed), &mut text).written;
+    let rule = if seed % 2 == 0 { drawn::rule(seed) } else { made_exact(drawn::rule(seed)) };
+    let written = peer::write_rule(&rule, &mut text).written;
     text.truncate(written);
     text
 }

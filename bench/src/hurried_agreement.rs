@@ -3,7 +3,7 @@
 use crate::count::{lent, Count};
 use crate::input::Input;
 use crate::show::{Lent, Show};
-use bench::{counted, drawn};
+use bench::{counted, drawn, exact};
 use std::collections::BTreeMap;
 
 /// As many as take no notable time.
@@ -24,9 +24,11 @@ pub fn hurried_agreement() -> Result<(), String> {
 /// The numbers that all answer to check, to count with near bounds, and to show of the last node at one state.
 fn answers(seed: u64) -> Result<[u32; 3], String> {
     let hurried = |rule| Input { chart: drawn::hurried(seed), rule };
-    let input = hurried(drawn::rule(seed));
+    // Every other rule has exact bounds.
+    let rule = if seed % 2 == 0 { drawn::rule(seed) } else { exact::made_exact(drawn::rule(seed)) };
+    let input = hurried(rule.clone());
     let checked = input.agree()?.number;
-    let count = Count { input: hurried(counted::near(drawn::rule(seed))) };
+    let count = Count { input: hurried(counted::near(rule)) };
     let counted = count.agree(lent)?.number;
     if counted == 0 {
         count.accepted()?;

@@ -5,9 +5,6 @@ use crate::measured::measured;
 use crate::stack::Stacks;
 use std::process::Command;
 
-/// Where check and show are made, no minutes are counted (`counting` is false), so this crate is not come to.
-const COUNTING: &str = "until_minutes::";
-
 /// The table of sizes: an archive, and programs.
 pub fn sizes(files: &[&str]) -> Result<(), String> {
     println!("| | text | read-only data | data |");
@@ -45,12 +42,11 @@ fn size_row(file: &str) -> Result<(), String> {
 /// The table of stacks: of each exported call the most that the machine code can take, and what was measured.
 pub fn stacks(archive: &str) -> Result<(), String> {
     let functions = functions(&printed("objdump", &["-dr", "--no-show-raw-insn"], archive)?)?;
-    let (counting, others) = (Stacks::of(&functions, &[])?, Stacks::of(&functions, &[COUNTING])?);
+    let stacks = Stacks::of(&functions)?;
     println!("| call | stack at most | measured | deepest path of calls |");
     println!("|---|---:|---:|---|");
     let measured = measured()?;
     for name in functions.keys().filter(|name| name.starts_with("doilystrand_")) {
-        let stacks = if name == "doilystrand_count" { &counting } else { &others };
         let path = stacks.most(name).ok_or(format!("{archive} has no {name}"))?;
         let taken = *measured.get(name.as_str()).ok_or(format!("the stack of {name} is not measured"))?;
         if taken as i64 > path.bytes {

@@ -3,7 +3,7 @@
 use crate::library_answer::outcome;
 use crate::timing::{in_turn, Pair, Plan};
 use bench::peer::Outcome;
-use bench::{counted, drawn, families, peer, rules, shown, small};
+use bench::{counted, drawn, exact, families, peer, rules, shown, small};
 use std::hint::black_box;
 
 pub struct Input {
@@ -18,9 +18,9 @@ pub struct Buffers {
 }
 
 impl Buffers {
-    /// As large as the largest input of check asks for.
+    /// As large as the largest input of check asks for, one with an exact bound.
     pub fn new() -> Buffers {
-        Buffers::with_scratch(4 * 256 + 1)
+        Buffers::with_scratch(256 * 256 + 1)
     }
 
     /// Filled with what neither program writes, so that kept content shows.
@@ -48,10 +48,11 @@ impl Input {
     }
 
     /// Small and drawn charts, and those of show and count, have their own size. The rule `seed` is that of the chart
-    /// `seed-N`.
+    /// `seed-N`, and `seed-exact` the same with exact bounds.
     pub fn sized(chart: &str, rule: &str, n: usize, m: usize) -> Result<Input, String> {
-        if let (Some(seed), "seed") = (chart.strip_prefix("seed-"), rule) {
-            return Ok(Input::drawn(seed.parse().map_err(|_| format!("{seed} is not a seed"))?));
+        if let (Some(seed), "seed" | "seed-exact") = (chart.strip_prefix("seed-"), rule) {
+            let seed = seed.parse().map_err(|_| format!("{seed} is not a seed"))?;
+            return Ok(if rule == "seed" { Input::drawn(seed) } else { Input::drawn_exact(seed) });
         }
         if let Some(row) = shown::input(chart, rule) {
             return Ok(Input { chart: row.chart, rule: row.rule });
@@ -65,6 +66,10 @@ impl Input {
 
     pub fn drawn(seed: u64) -> Input {
         Input { chart: drawn::chart(seed), rule: drawn::rule(seed) }
+    }
+
+    pub fn drawn_exact(seed: u64) -> Input {
+        Input { chart: drawn::chart(seed), rule: exact::made_exact(drawn::rule(seed)) }
     }
 
     /// How many states, arrows and nodes it has.

@@ -19,10 +19,20 @@ pub struct Ladder {
 /// at least than the rungs would: from the foot none can be taken within the minutes of the rungs, and from everywhere else
 /// most can. State numbers and arrows are shuffled.
 pub fn ladder(rungs: usize) -> Ladder {
+    of_rungs(rungs, 5)
+}
+
+/// The same with rungs of a minute each, so that as many minutes as an exact bound may have are as many rungs.
+pub fn minute_ladder(rungs: usize) -> Ladder {
+    of_rungs(rungs, 1)
+}
+
+/// Rungs of up to so many minutes.
+fn of_rungs(rungs: usize, longest: usize) -> Ladder {
     let mut random = Random::new(rungs as u64);
     let numbers = shuffled_numbers(STATES, &mut random);
     let level = |place: usize| place * (rungs + 1) / STATES;
-    let heights = heights(rungs, &mut random);
+    let heights = heights(rungs, longest, &mut random);
     let mut arrows = Vec::with_capacity(ARROWS);
     for i in 0..ARROWS {
         let place = i % STATES;
@@ -42,10 +52,10 @@ pub fn ladder(rungs: usize) -> Ladder {
 }
 
 /// The minutes from the foot to each level.
-fn heights(rungs: usize, random: &mut Random) -> Vec<u16> {
+fn heights(rungs: usize, longest: usize, random: &mut Random) -> Vec<u16> {
     let mut heights = vec![0];
     for rung in 0..rungs {
-        heights.push(heights[rung] + 1 + random.below(5) as u16);
+        heights.push(heights[rung] + 1 + random.below(longest) as u16);
     }
     heights
 }

@@ -5,6 +5,7 @@ pub mod counted;
 pub mod deep;
 pub mod drawn;
 pub mod edited;
+pub mod exact;
 pub mod families;
 pub mod handover;
 pub mod instant;

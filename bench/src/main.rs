@@ -1,20 +1,22 @@
 //! Times the library beside the peer.
 //!
-//! `bench` prints the tables, `bench --count` those of count alone, `bench --text` those of read and write alone,
-//! `bench --quick` the ratios alone; `bench --agree` only compares the two on all inputs. `bench --one CHART RULE
-//! PROGRAM COUNT` only runs one input that often, for counting instructions; `seed-N` with rule `seed` is a chart of
-//! the table of random ones, and an input of read or write stands in place of a chart, with rule `text`. The program is
-//! `library` or `peer`, which check, or one of these with `-show`, `-count` or `-text`, or `plain-count`, the plainer
-//! of count's two peers. `bench --files CHART RULE FOLDER` writes one input for the desk program. `bench --names`
-//! prints the families, `bench --small` chart and rule of each small input, `bench --shown` those of each run that is
-//! shown, `bench --counted` those of count whose instructions are counted, `bench --typed` those of read and write.
-//! `bench --size FILE...` prints the bytes of an archive or a program, `bench --stack ARCHIVE` the stack of each
-//! exported call; the archive is the one that is linked here.
+//! `bench` prints the tables, `bench --count` those of count alone, `bench --exact` that of exact bounds alone,
+//! `bench --text` those of read and write alone, `bench --quick` the ratios alone; `bench --agree` only compares the two
+//! on all inputs. `bench --one CHART RULE PROGRAM COUNT` only runs one input that often, for counting instructions;
+//! `seed-N` with rule `seed` is a chart of the table of random ones, with rule `seed-exact` the same with exact bounds,
+//! and an input of read or write stands in place of a chart, with rule `text`. The program is `library` or `peer`, which
+//! check, or one of these with `-show`, `-count` or `-text`, or `plain-count`, the plainer of count's two peers.
+//! `bench --files CHART RULE FOLDER` writes one input for the desk program. `bench --names` prints the families,
+//! `bench --small` chart and rule of each small input, `bench --shown` those of each run that is shown, `bench --counted`
+//! those of count whose instructions are counted, `bench --exactly` those of exact bounds and the same rule with "at
+//! most", `bench --typed` those of read and write. `bench --size FILE...` prints the bytes of an archive or a program,
+//! `bench --stack ARCHIVE` the stack of each exported call; the archive is the one that is linked here.
 
 mod agreement;
 mod count;
 mod count_agreement;
 mod count_tables;
+mod exact_tables;
 mod hurried_agreement;
 mod image;
 mod input;
@@ -44,8 +46,8 @@ use std::time::Duration;
 use timing::Plan;
 use typing::Typing;
 
-const USE: &str =
-    "use: bench [--quick | --count | --text | --agree | --names | --small | --shown | --counted | --typed]
+const USE: &str = "use: bench [--quick | --count | --exact | --text | --agree]
+     bench --names | --small | --shown | --counted | --exactly | --typed
      bench --one CHART RULE library|peer|library-show|peer-show|library-count|plain-count|peer-count COUNT
      bench --one INPUT text library-text|peer-text COUNT
      bench --size FILE...
@@ -72,6 +74,7 @@ fn run(words: &[&str]) -> Result<(), String> {
         [] => report::all(&WHOLE),
         ["--quick"] => ratios::quick(),
         ["--count"] => report::count(&WHOLE),
+        ["--exact"] => report::exact(&WHOLE),
         ["--text"] => report::text(&WHOLE),
         ["--agree"] => agreement::agreement(),
         ["--one", chart, rule, program, count] => one(chart, rule, program, count),
@@ -92,6 +95,10 @@ fn run(words: &[&str]) -> Result<(), String> {
         }
         ["--counted"] => {
             bench::counted::CHARTS.iter().for_each(|chart| println!("{chart} {}", bench::counted::name("mixed", 63)));
+            Ok(())
+        }
+        ["--exactly"] => {
+            bench::exact::rows().iter().for_each(|row| println!("{} {} {}", row.chart, row.exact, row.most));
             Ok(())
         }
         ["--typed"] => {

@@ -6,6 +6,10 @@ pub const SOME_RUN: u8 = 5;
 pub const ALL_RUNS: u8 = 6;
 pub const AT_MOST: u8 = 1;
 pub const AT_LEAST: u8 = 2;
+pub const EXACTLY: u8 = 3;
+
+/// The greatest exact bound.
+pub const MOST_EXACT: u16 = 255;
 
 pub fn always() -> Node {
     Node { operation: 0, kind: 0, a: 0, b: 0, c: 0 }

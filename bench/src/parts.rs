@@ -22,6 +22,7 @@ pub fn chart(name: &str) -> Option<Vec<u8>> {
         "parts" => families::slot,
         "parts-short" => short,
         "parts-wide" => wide,
+        "parts-minute" => minute,
         _ => return None,
     };
     let mut random = Random::new(11);
@@ -57,5 +58,11 @@ fn wide(start: usize, end: usize, random: &mut Random) -> Arrow {
     let fewest = 1 + random.below(20) as u16;
     let most = fewest + random.below(201) as u16;
     let most = if random.chance(1, 8) { NO_END } else { most };
+    Arrow { start: start as u16, end: end as u16, fewest, most }
+}
+
+/// A minute or none, three in five just a minute: no run leaves a minute out.
+fn minute(start: usize, end: usize, random: &mut Random) -> Arrow {
+    let (fewest, most) = [(1, 1), (1, 1), (1, 1), (0, 1), (0, 0)][random.below(5)];
     Arrow { start: start as u16, end: end as u16, fewest, most }
 }

@@ -1,13 +1,15 @@
 //! A plain peer of the library's check, by the published method: shortest times by Dijkstra's search backwards from the
 //! goals, longest times over strongly connected components. It parses, refuses and marks as the library does. A run is
 //! shown by a search over steps after that. Counting the minutes is a method of its own, over the same chart and rule,
-//! written twice: quick and plain. Rules typed as text are read by recursive descent, and written down their tree.
+//! written twice: quick and plain; check settles exact bounds by the quick one. Rules typed as text are read by recursive
+//! descent, and written down their tree.
 
 mod arrows;
 mod chart;
 mod components;
 mod count;
 mod counts;
+mod exact_run;
 mod layers;
 mod longest;
 mod minutes;
@@ -23,6 +25,7 @@ mod waiting;
 mod write_rule;
 
 use chart::Chart;
+use count::ROWS;
 use rule::Rule;
 use settle::Settler;
 
@@ -78,10 +81,13 @@ fn accept(chart: &[u8], rule: &[u8], marks: &mut [u8], scratch: &mut [u32]) -> R
     let (chart, rule) = read(chart, rule)?;
     let n = chart.labels.len();
     let marks = marks.get_mut(..rule.nodes.len() * n).ok_or(refusal(17, 0))?;
-    let scratch = scratch.get_mut(..4 * n).ok_or(refusal(18, 0))?;
-    // The numbers per state live in vectors here; the lent ones are only left as the paper says.
+    let scratch = scratch.get_mut(..if rule.is_exact() { ROWS } else { 4 } * n).ok_or(refusal(18, 0))?;
+    // But for the rows of exact bounds, the numbers per state live in vectors here; the lent ones are only left as the
+    // paper says.
+    let locked = chart.refuse_timelock();
+    if locked.is_ok() {
+        Settler::new(&chart, &rule, scratch).settle(&rule, marks);
+    }
     scratch.fill(0);
-    chart.refuse_timelock()?;
-    Settler::new(&chart).settle(&rule, marks);
-    Ok((chart, rule))
+    locked.map(|()| (chart, rule))
 }

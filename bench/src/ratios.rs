@@ -1,11 +1,12 @@
 //! Times of the library as ratios to the peer's.
 
 use crate::count::Count;
+use crate::exact_tables;
 use crate::input::Input;
 use crate::show::Show;
 use crate::timing::{Pair, Plan};
 use crate::typing::Typing;
-use bench::{counted, families, rules, shown, small, texts};
+use bench::{counted, exact, families, rules, shown, small, texts};
 use std::time::Duration;
 
 /// The times on the family's chart that has the greatest ratio.
@@ -46,6 +47,7 @@ pub fn quick() -> Result<(), String> {
     small_charts()?;
     shown_runs()?;
     counted_minutes()?;
+    exact_bounds()?;
     typed_rules()?;
     println!("geometric mean {:.2}, worst family {:.2} {}", geometric_mean(&all), worst.0, worst.1);
     Ok(())
@@ -99,6 +101,20 @@ fn counted_minutes() -> Result<(), String> {
             let name = format!("{chart} {c}");
             println!("{name:17}{}  {}", line(plain.into_iter()), line(quick.into_iter()));
         }
+    }
+    Ok(())
+}
+
+/// Check of exact bounds to count of the same rule with "at most".
+fn exact_bounds() -> Result<(), String> {
+    println!("{:17}exactly 255 to at most, counted", "");
+    println!("{:17}{}", "", line(exact::UNTILS.iter().map(|name| name.to_string())));
+    for rows in exact::rows().chunks(exact::UNTILS.len()) {
+        let mut ratios = Vec::new();
+        for row in rows {
+            ratios.push(format!("{:.2}", exact_tables::times(&QUICK, row)?.to_most()));
+        }
+        println!("{:17}{}", rows[0].chart, line(ratios.into_iter()));
     }
     Ok(())
 }

@@ -3,6 +3,7 @@
 use crate::agreement::agreement;
 use crate::count_agreement::count_agreement;
 use crate::count_tables::count_tables;
+use crate::exact_tables::exact_table;
 use crate::input::Input;
 use crate::ratios::worst_chart;
 use crate::show::Show;
@@ -24,6 +25,7 @@ pub fn all(plan: &Plan) -> Result<(), String> {
     worst::table()?;
     shown_runs(plan)?;
     count_tables(plan)?;
+    exact_table(plan)?;
     text_tables(plan)?;
     map_checks(plan)
 }
@@ -33,6 +35,12 @@ pub fn count(plan: &Plan) -> Result<(), String> {
     count_agreement()?;
     how(plan);
     count_tables(plan)
+}
+
+/// The table of exact bounds alone.
+pub fn exact(plan: &Plan) -> Result<(), String> {
+    how(plan);
+    exact_table(plan)
 }
 
 /// The tables of read and write alone.

@@ -1,16 +1,20 @@
 //! Inputs of show: a chart, a rule that is one until over two labels, and the state to ask for.
 
 use crate::bytes::{self, Node};
-use crate::ladder::ladder;
-use crate::nodes::{all_runs, label, some_run, AT_LEAST, AT_MOST};
+use crate::ladder::{ladder, minute_ladder, Ladder};
+use crate::nodes::{all_runs, label, some_run, AT_LEAST, AT_MOST, EXACTLY};
 use crate::ring::ring;
 
 /// Chart and rule of each row; the rule's number is that of the fewest steps of a run from the state. "At most" has no such
-/// run of 256 steps on 256 states: one that comes to a state twice can leave out what lies between.
-pub const ROWS: [(&str, &str); 9] = [
+/// run of 256 steps on 256 states: one that comes to a state twice can leave out what lies between. An exact bound of
+/// 255 has none either where every step takes time.
+pub const ROWS: [(&str, &str); 12] = [
     ("ladder-1", "show-e-most-1"),
     ("ladder-30", "show-e-most-30"),
     ("ladder-255", "show-e-most-255"),
+    ("minute-ladder-1", "show-e-exact-1"),
+    ("minute-ladder-30", "show-e-exact-30"),
+    ("minute-ladder-255", "show-e-exact-255"),
     ("ring", "show-e-least-1"),
     ("ring", "show-e-least-30"),
     ("ring", "show-e-least-256"),
@@ -34,14 +38,17 @@ pub fn input(chart: &str, rule: &str) -> Option<Shown> {
     }
     let (until, steps) = rule.rsplit_once('-')?;
     let steps = steps.parse().ok()?;
-    let (chart, state, until) = if until == "show-e-most" { on_ladder(steps) } else { on_ring(until, steps)? };
+    let (chart, state, until) = match until {
+        "show-e-most" => on_ladder(ladder(steps), AT_MOST),
+        "show-e-exact" => on_ladder(minute_ladder(steps), EXACTLY),
+        _ => on_ring(until, steps)?,
+    };
     let nodes = [label(0), label(1), until];
     Some(Shown { chart, rule: bytes::rule(&nodes), node: nodes.len() - 1, state, steps })
 }
 
-fn on_ladder(steps: usize) -> (Vec<u8>, usize, Node) {
-    let ladder = ladder(steps);
-    (ladder.chart, ladder.foot, some_run(0, 1, AT_MOST, ladder.minutes))
+fn on_ladder(ladder: Ladder, kind: u8) -> (Vec<u8>, usize, Node) {
+    (ladder.chart, ladder.foot, some_run(0, 1, kind, ladder.minutes))
 }
 
 /// The bound is such that fewer steps can't meet it, or pass it.

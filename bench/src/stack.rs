@@ -153,12 +153,10 @@ fn reached<'a>(from: &str, frames: &BTreeMap<&'a str, Frame<'a>>) -> BTreeSet<&'
 }
 
 impl<'a> Stacks<'a> {
-    /// Calls of functions whose names begin so are left out: what is handed down never leads to them.
-    pub fn of(functions: &'a Functions, left_out: &[&str]) -> Result<Self, String> {
+    pub fn of(functions: &'a Functions) -> Result<Self, String> {
         let mut frames = BTreeMap::new();
         for (name, steps) in functions {
-            let mut frame = frame(steps).map_err(|why| format!("{name}: {why}"))?;
-            frame.calls.retain(|(to, _)| !left_out.iter().any(|beginning| to.starts_with(beginning)));
+            let frame = frame(steps).map_err(|why| format!("{name}: {why}"))?;
             if let Some((to, _)) = frame.calls.iter().find(|(to, _)| !functions.contains_key(*to) && !OF_C.contains(to))
             {
                 return Err(format!("{name}: it calls {to}, which is not there"));
@@ -213,9 +211,9 @@ mod tests {
     use super::*;
     use crate::machine::functions;
 
-    fn told(printed: &str, name: &str, left_out: &[&str]) -> Result<String, String> {
+    fn told(printed: &str, name: &str) -> Result<String, String> {
         let functions = functions(printed)?;
-        let path = Stacks::of(&functions, left_out)?.most(name).ok_or("no such function")?;
+        let path = Stacks::of(&functions)?.most(name).ok_or("no such function")?;
         Ok(format!("{}: {}", path.bytes, path.told()))
     }
 
@@ -252,29 +250,28 @@ mod tests {
 
     #[test]
     fn frames_add_up_and_a_tail_call_has_none_above_it() {
-        assert_eq!(told(CALLS, "f", &[]), Ok("72: f 32, g 40".to_string()));
-        assert_eq!(told(CALLS, "f", &["g"]), Ok("32: f 32".to_string()));
-        assert_eq!(told(CALLS, "h", &[]), Ok("16: h 16".to_string()));
+        assert_eq!(told(CALLS, "f"), Ok("72: f 32, g 40".to_string()));
+        assert_eq!(told(CALLS, "h"), Ok("16: h 16".to_string()));
     }
 
     #[test]
     fn what_comes_to_itself_stands_there_as_often_as_it_can() {
-        assert_eq!(told(SETTLE, "settle::settle", &[]), Ok("1032: settle::settle 64 × 16, g 8".to_string()));
-        let digits = told(&SETTLE.replace("settle::settle", "decimal::put_number"), "decimal::put_number", &[]);
+        assert_eq!(told(SETTLE, "settle::settle"), Ok("1032: settle::settle 64 × 16, g 8".to_string()));
+        let digits = told(&SETTLE.replace("settle::settle", "decimal::put_number"), "decimal::put_number");
         assert_eq!(digits, Ok("328: decimal::put_number 20 × 16, g 8".to_string()));
-        let other = told(&SETTLE.replace("settle::settle", "other"), "other", &[]);
+        let other = told(&SETTLE.replace("settle::settle", "other"), "other");
         assert_eq!(other, Err("other comes to itself again, how often is not known".to_string()));
     }
 
     #[test]
     fn what_is_not_clear_is_an_error() {
         let uneven = "0 <f>:\n 0:\tje     2 <f+0x2>\n 1:\tpush   %rbx\n 2:\tret\n";
-        assert_eq!(told(uneven, "f", &[]), Err("f: at 2 the stack has 16 bytes or 8".to_string()));
+        assert_eq!(told(uneven, "f"), Err("f: at 2 the stack has 16 bytes or 8".to_string()));
         let idle = "0 <f>:\n 0:\tret\n 1:\tpush   %rbx\n 2:\tret\n";
-        assert_eq!(told(idle, "f", &[]), Err("f: nothing leads to 1".to_string()));
+        assert_eq!(told(idle, "f"), Err("f: nothing leads to 1".to_string()));
         let twice = "0 <f>:\n 0:\tje     3 <f+0x3>\n 1:\tjmp    *%rax\n 3:\tjmp    *%rax\n 5:\tret\n";
-        assert_eq!(told(twice, "f", &[]), Err("f: nothing leads to 5".to_string()));
+        assert_eq!(told(twice, "f"), Err("f: nothing leads to 5".to_string()));
         let strange = "0 <f>:\n 0:\tcall   9 <strange>\n 5:\tret\n";
-        assert_eq!(told(strange, "f", &[]), Err("f: it calls strange, which is not there".to_string()));
+        assert_eq!(told(strange, "f"), Err("f: it calls strange, which is not there".to_string()));
     }
 }

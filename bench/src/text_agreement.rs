@@ -1,6 +1,7 @@
 //! Library and peer compared on every input of read and write, on drawn rules, and on their texts with single edits.
 
 use crate::typing::{Call, Typing, ROOM};
+use bench::exact::made_exact;
 use bench::peer::Written;
 use bench::{drawn, edited, texts};
 use std::collections::BTreeMap;
@@ -53,7 +54,7 @@ fn outputs(typing: &Typing, written: usize, counts: &mut Counts) -> Result<(), S
 
 /// A rule as it is, with one byte another, and cut.
 fn drawn_rule(seed: u64, counts: &mut Counts) -> Result<(), String> {
-    let rule = drawn::rule(seed);
+    let rule = if seed % 2 == 0 { drawn::rule(seed) } else { made_exact(drawn::rule(seed)) };
     let at = 7 + seed as usize % (rule.len() - 7);
     let other = [&rule[..at], &[rule[at] ^ 1 << (seed % 8)], &rule[at + 1..]].concat();
     let cut = rule[..at].to_vec();

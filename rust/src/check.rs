@@ -5,9 +5,10 @@ use crate::Outcome;
 
 /// Marks every node of the rule at every state of the chart: byte t × n + s is 1 if node t holds at state s, else 0.
 ///
-/// It wants k × n bytes of marks and 4n numbers of scratch; [`MAX_MARKS`](crate::MAX_MARKS) and
-/// [`MAX_SCRATCH`](crate::MAX_SCRATCH) are always enough. The first 4n numbers of scratch are 0 after acceptance and
-/// after refusal 19. All else is left as lent. [`marks`](crate::marks()) does the same with buffers of its own.
+/// It wants k × n bytes of marks and 4n numbers of scratch, or 256n if a bound of the rule is exact (kind 3);
+/// [`MAX_MARKS`](crate::MAX_MARKS) and [`MAX_SCRATCH`](crate::MAX_SCRATCH) are always enough. The first so many numbers
+/// of scratch are 0 after acceptance and after refusal 19. All else is left as lent. [`marks`](crate::marks()) does the
+/// same with buffers of its own.
 ///
 /// ```
 /// let chart = [1, 0, 0, 0, 19, 0, 1, 0, 1, 0, 0, 0, 0, 0, 0, 0, 1, 0, 1]; // one state, an arrow of 1 to 1 minutes

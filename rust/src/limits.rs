@@ -16,8 +16,8 @@ pub const MAX_MAP: usize = 7 + 2 * MAX_STATES;
 
 /// Bytes of marks that are enough for every check.
 pub const MAX_MARKS: usize = MAX_NODES * MAX_STATES;
-/// Numbers of scratch that are enough for every check.
-pub const MAX_SCRATCH: usize = 4 * MAX_STATES;
+/// Numbers of scratch that are enough for every check, with exact bounds too; four for each state are without.
+pub const MAX_SCRATCH: usize = 256 * MAX_STATES;
 
 /// A run of 256 steps, the most that one is shown with, has a position more.
 const MAX_POSITIONS: usize = 257;
@@ -84,7 +84,7 @@ mod tests {
 
     #[test]
     fn the_largest_takes_all_of_the_buffers() {
-        let (chart, rule) = (samples::largest_chart(), samples::largest_rule());
+        let (chart, rule) = (samples::largest_chart(), samples::largest_exact_rule());
         let number = |m, s| check(&chart, &rule, &mut vec![0; m], &mut vec![0; s]).number;
         assert_eq!(number(MAX_MARKS - 1, MAX_SCRATCH), 17);
         assert_eq!(number(MAX_MARKS, MAX_SCRATCH - 1), 18);

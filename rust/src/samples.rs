@@ -31,6 +31,12 @@ pub fn largest_rule() -> Vec<u8> {
     framed([MAX_NODES, 0, 0, 0, 0].into_iter().chain(nots))
 }
 
+/// As long, with an exact until under its nots.
+pub fn largest_exact_rule() -> Vec<u8> {
+    let nots = (3..MAX_NODES).flat_map(|i| [0x0200, i - 1, 0, 0]);
+    framed([MAX_NODES, 0, 0, 0, 0, 0, 0, 0, 0, 0x0503, 0, 1, 0].into_iter().chain(nots))
+}
+
 /// E(true until true, at least these minutes).
 pub fn some_run_of_at_least(minutes: usize) -> Vec<u8> {
     framed([3, 0, 0, 0, 0, 0, 0, 0, 0, 0x0502, 0, 1, minutes])

@@ -9,8 +9,8 @@ use crate::{call, Refusal, Run};
 /// The run stands in the first bytes of the output. It has the fewest steps there are, at most 256; which of several
 /// appears is free. It wants 257n numbers of scratch, and 6 bytes of output for each position;
 /// [`MAX_RUN_SCRATCH`](crate::MAX_RUN_SCRATCH) and [`MAX_RUN`](crate::MAX_RUN) are always enough. The first 257n numbers
-/// of scratch are 0 after acceptance and after refusal 62, the first 4n after 19, 60 and 61. The marks are written after
-/// 60 to 62 too. All else is left as lent. [`why`](crate::why()) does the same with buffers of its own.
+/// of scratch are 0 after acceptance and after refusal 62, as many as check's after 19, 60 and 61. The marks are written
+/// after 60 to 62 too. All else is left as lent. [`why`](crate::why()) does the same with buffers of its own.
 ///
 /// # Errors
 ///

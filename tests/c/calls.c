@@ -11,7 +11,7 @@ _Static_assert(DOILYSTRAND_MAX_CHART == 9 + 2 * 256 + 8 * 2048, "longest chart")
 _Static_assert(DOILYSTRAND_MAX_RULE == 7 + 8 * 64, "longest rule");
 _Static_assert(DOILYSTRAND_MAX_MAP == 7 + 2 * 256, "longest map");
 _Static_assert(DOILYSTRAND_MAX_MARKS == 64 * 256, "largest marks table");
-_Static_assert(DOILYSTRAND_MAX_SCRATCH == 4 * 256, "largest scratch");
+_Static_assert(DOILYSTRAND_MAX_SCRATCH == 256 * 256, "largest scratch");
 _Static_assert(DOILYSTRAND_MAX_RUN == 257 * 6, "longest run");
 _Static_assert(DOILYSTRAND_MAX_RUN_SCRATCH == 257 * 256, "largest scratch of a run");
 _Static_assert(DOILYSTRAND_MAX_COUNT_BOUND == UINT8_MAX, "greatest bound of a count");
@@ -53,6 +53,10 @@ static const uint8_t rule[] = {1, 0, 0, 0, 31, 0, 3, 0, 0, 0, 0, 0, 0, 0, 0,
 /* E(true until L2, at most 5). */
 static const uint8_t some_rule[] = {1, 0, 0, 0, 31, 0, 3, 0, 0, 0, 0, 0, 0, 0, 0,
                                     1, 0, 0, 2, 0, 0, 0, 0, 5, 1, 0, 0, 0, 1, 0, 5};
+
+/* E(true until L2, exactly 14). */
+static const uint8_t exact_rule[] = {1, 0, 0, 0, 31, 0, 3, 0, 0, 0, 0, 0, 0, 0, 0,
+                                     1, 0, 0, 2, 0, 0, 0, 0, 5, 3, 0, 0, 0, 1, 0, 14};
 
 static const uint8_t identity[] = {1, 0, 0, 0, 13, 0, 3, 0, 0, 0, 1, 0, 2};
 
@@ -129,6 +133,36 @@ static void minutes_are_counted(void) {
     expect(is(doilystrand_count(NULL, 0, NULL, 0, NULL, 0, NULL, 0), 1, 0, 1), "nothing at all is not 1");
 }
 
+/* What Short and the rule with an exact bound are checked with: as much as they are counted with. */
+static doilystrand_outcome checked_exactly(const uint8_t *chart, const uint8_t *of, size_t scratch_size) {
+    memset(counted_marks, 77, sizeof counted_marks);
+    for (int i = 0; i < 769; i++) counted_scratch[i] = 7;
+    return doilystrand_check(chart, sizeof short_chart, of, sizeof exact_rule, counted_marks, 9, counted_scratch,
+                             scratch_size);
+}
+
+static void exact_bounds_are_checked(void) {
+    static const uint8_t listed[] = {1, 1, 1, 0, 0, 1, 1, 0, 0, 77};
+    static const uint8_t lent[] = {77, 77, 77, 77, 77, 77, 77, 77, 77, 77};
+    uint8_t late_rule[sizeof exact_rule], stuck[sizeof short_chart];
+    size_t size = sizeof short_chart;
+    memcpy(late_rule, exact_rule, sizeof exact_rule);
+    late_rule[29] = 1, late_rule[30] = 0; /* exactly 256 */
+    make_stuck(stuck);
+    expect(is(checked_exactly(short_chart, exact_rule, 769), 0, 0, 0), "check refuses an exact bound");
+    expect_counted(listed, 768);
+    expect(is(checked_exactly(short_chart, exact_rule, 768), 0, 0, 0), "768 numbers are too few for an exact bound");
+    expect(is(checked_exactly(short_chart, exact_rule, 767), 18, 0, 5), "767 numbers are enough for an exact bound");
+    expect_counted(lent, 0);
+    expect(is(checked_exactly(short_chart, late_rule, 0), 14, 2, 3), "exactly 256 is not 14");
+    expect_counted(lent, 0);
+    expect(is(checked_exactly(stuck, exact_rule, 769), 19, 1, 1), "where no time can pass is not 19 of an exact bound");
+    expect_counted(lent, 768);
+    expect(is(counted(short_chart, size, exact_rule, sizeof exact_rule, 9, 768), 0, 0, 0),
+           "count refuses an exact bound");
+    expect_counted(listed, 768);
+}
+
 /* What Short and a rule of three nodes are shown with: 9 marks, 771 numbers and 18 bytes, and one more of each. */
 static uint8_t shown_marks[10];
 static uint32_t shown_scratch[772];
@@ -176,9 +210,31 @@ static void runs_are_shown(void) {
     expect(is(w.outcome, 1, 0, 1) && w.written == 0, "nothing at all is not 1");
 }
 
+/* Exactly 14: 10 minutes and 4. After 60 and 61 as many numbers are 0 as check asks for. */
+static void exact_runs_are_shown(void) {
+    static const uint8_t run[] = {0, 0, 0, 0, 0, 10, 0, 1, 0, 0, 0, 4, 0, 2, 0, 0, 0, 0};
+    static const struct { size_t state, scratch, output, cleared; uint32_t number, entry; } asked[] = {
+        {0, 771, 18, 771, 0, 0}, {0, 770, 18, 768, 61, 5}, {0, 772, 17, 771, 62, 5},
+        {1, 772, 18, 768, 60, 3}, {0, 767, 18, 0, 18, 5},
+    };
+    for (size_t i = 0; i < sizeof asked / sizeof asked[0]; i++) {
+        for (int j = 0; j < 772; j++) shown_scratch[j] = 7;
+        doilystrand_written w = doilystrand_show(short_chart, sizeof short_chart, exact_rule, sizeof exact_rule,
+                                                 shown_marks, 9, shown_scratch, asked[i].scratch, 2, asked[i].state,
+                                                 shown_output, asked[i].output);
+        expect(is(w.outcome, asked[i].number, 0, asked[i].entry), "show answers otherwise of an exact bound");
+        for (size_t j = 0; j < 772; j++)
+            expect(shown_scratch[j] == (j < asked[i].cleared ? 0 : 7), "show leaves another scratch of an exact bound");
+        if (asked[i].number == 0)
+            expect(w.written == sizeof run && memcmp(shown_output, run, sizeof run) == 0, "another run of exactly 14");
+    }
+}
+
 static void kinds_are_told(void) {
     doilystrand_kind_answer a = doilystrand_kind_of_rule(rule, sizeof rule);
     expect(is(a.outcome, 0, 0, 0) && a.kind == DOILYSTRAND_ALL_RUNS, "A-until is not all-runs");
+    a = doilystrand_kind_of_rule(exact_rule, sizeof exact_rule);
+    expect(is(a.outcome, 0, 0, 0) && a.kind == DOILYSTRAND_SOME_RUN, "E exactly is not some-run");
     a = doilystrand_kind_of_rule(rule, 30);
     expect(is(a.outcome, 12, 0, 3) && a.kind == DOILYSTRAND_NEITHER, "a cut rule is not 12");
     a = doilystrand_kind_of_rule(NULL, 0);
@@ -222,6 +278,9 @@ static void texts_are_read(void) {
     expect(is_written(read_text("E(true U<=5 L2)", 31), some_rule, sizeof some_rule), "E is another rule");
     expect(is_refused(read_text("A(true U<=65536 L2)", 31), 64, 14, 3), "65,536 is not 64 at its last digit");
     expect(read_text("A(true U<=65535 L2)", 31).written == 31, "65,535 is refused");
+    expect(is_written(read_text("E(true U==14 L2)", 31), exact_rule, sizeof exact_rule), "E exactly is another rule");
+    expect(is_refused(read_text("E(true U==256 L2)", 31), 64, 12, 3), "exactly 256 is not 64 at its last digit");
+    expect(read_text("E(true U==255 L2)", 31).written == 31, "exactly 255 is refused");
     expect(is_refused(read_text("L16", 0), 64, 2, 3), "L16 is not 64 at 2");
     expect(is_refused(read_text("L15", 0), 66, 0, 5), "L15 without an output is not 66");
     expect(is_refused(read_text("true\n", 31), 64, 4, 3), "a newline is not 64");
@@ -242,6 +301,8 @@ static void rules_are_written(void) {
     expect(is_written(write_text(rule, sizeof rule, size + 1), text, size), "a rule has another text");
     expect(is_written(write_text(rule, sizeof rule, size), text, size), "16 bytes are too few for the text");
     expect(is_refused(write_text(rule, sizeof rule, size - 1), 66, 0, 5), "15 bytes are not 66");
+    expect(is_written(write_text(exact_rule, sizeof exact_rule, size), "E(true U==14 L2)", size),
+           "an exact bound has another text");
     expect(is_refused(write_text(rule, 30, size), 12, 0, 3), "a cut rule is not 12");
     expect(is_refused(doilystrand_write_rule(rule, sizeof rule, NULL, 0), 66, 0, 5), "an empty output is not 66");
     expect(is_refused(doilystrand_write_rule(NULL, 0, NULL, 0), 10, 0, 3), "nothing at all is not 10");
@@ -353,10 +414,11 @@ static void make_the_largest(void) {
     expect(at == largest_map + sizeof largest_map, "the largest map's size");
 }
 
-static doilystrand_outcome check_the_largest(size_t marks_size, size_t scratch_size) {
+static doilystrand_outcome check_the_largest(const uint8_t *of, size_t of_size, size_t marks_size,
+                                             size_t scratch_size) {
     static uint8_t marks[DOILYSTRAND_MAX_MARKS];
     static uint32_t scratch[DOILYSTRAND_MAX_SCRATCH];
-    return doilystrand_check(largest_chart, sizeof largest_chart, largest_rule, sizeof largest_rule,
+    return doilystrand_check(largest_chart, sizeof largest_chart, of, of_size,
                              marks, marks_size, scratch, scratch_size);
 }
 
@@ -402,10 +464,16 @@ static void the_longest_is_shown(void) {
 
 static void the_largest_is_taken(void) {
     size_t size = sizeof largest_chart, marks = DOILYSTRAND_MAX_MARKS, scratch = DOILYSTRAND_MAX_SCRATCH;
+    const uint8_t *of = largest_rule;
+    size_t of_size = sizeof largest_rule;
     make_the_largest();
-    expect(is(check_the_largest(marks, scratch), 0, 0, 0), "check refuses the largest");
-    expect(is(check_the_largest(marks - 1, scratch), 17, 0, 5), "the largest manages with fewer marks");
-    expect(is(check_the_largest(marks, scratch - 1), 18, 0, 5), "the largest manages with less scratch");
+    expect(is(check_the_largest(of, of_size, marks, scratch), 0, 0, 0), "check refuses the largest");
+    expect(is(check_the_largest(of, of_size, marks - 1, scratch), 17, 0, 5), "the largest manages with fewer marks");
+    expect(is(check_the_largest(of, of_size, marks, 4 * 256), 0, 0, 0), "4n numbers are too few without exact bounds");
+    expect(is(check_the_largest(of, of_size, marks, 4 * 256 - 1), 18, 0, 5), "the largest manages with less scratch");
+    of = exact_rule, of_size = sizeof exact_rule;
+    expect(is(check_the_largest(of, of_size, marks, scratch), 0, 0, 0), "check refuses the largest, an exact bound");
+    expect(is(check_the_largest(of, of_size, marks, scratch - 1), 18, 0, 5), "an exact bound manages with less");
     expect(is(doilystrand_map_check(largest_chart, size, largest_chart, size, largest_map, sizeof largest_map),
               0, 0, 0), "map check refuses the largest");
 }
@@ -414,7 +482,9 @@ int main(void) {
     marks_are_written();
     refusals_are_told();
     minutes_are_counted();
+    exact_bounds_are_checked();
     runs_are_shown();
+    exact_runs_are_shown();
     kinds_are_told();
     texts_are_read();
     rules_are_written();

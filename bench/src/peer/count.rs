@@ -11,7 +11,7 @@ use super::slots::{After, Late, Slot, Within};
 use super::{read, refusal, Outcome};
 
 /// Bounds go to 255.
-const ROWS: usize = 256;
+pub const ROWS: usize = 256;
 
 /// Marks every node of the rule at every state of the chart: the quick peer.
 pub fn count(chart: &[u8], rule: &[u8], marks: &mut [u8], scratch: &mut [u32]) -> Outcome {
@@ -61,13 +61,13 @@ fn refuse_bounds(rule: &Rule) -> Result<(), Outcome> {
 
 fn minutes(bound: Bound) -> usize {
     match bound {
-        Bound::AtMost(c) | Bound::AtLeast(c) => c as usize,
+        Bound::AtMost(c) | Bound::AtLeast(c) | Bound::Exactly(c) => c as usize,
     }
 }
 
-struct Counter<'a, R> {
-    labels: &'a [u16],
-    rows: R,
+pub struct Counter<'a, R> {
+    pub labels: &'a [u16],
+    pub rows: R,
 }
 
 impl<R: Rows> Counter<'_, R> {
@@ -78,17 +78,21 @@ impl<R: Rows> Counter<'_, R> {
             let (before, rest) = marks.split_at_mut(t * n);
             let marks = &mut rest[..n];
             match *node {
-                Node::SomeRun(a, b, bound) => {
-                    self.some_run(row(before, n, a), row(before, n, b), bound);
-                    fill(marks, |s| self.rows.has(minutes(bound), s));
-                }
-                Node::AllRuns(a, b, bound) => {
-                    self.failing_run(row(before, n, a), row(before, n, b), bound);
-                    fill(marks, |s| !self.rows.has(minutes(bound), s));
-                }
+                Node::SomeRun(a, b, bound) => self.some_marks(row(before, n, a), row(before, n, b), bound, marks),
+                Node::AllRuns(a, b, bound) => self.all_marks(row(before, n, a), row(before, n, b), bound, marks),
                 plain => plain_node(self.labels, plain, before, marks),
             }
         }
+    }
+
+    pub fn some_marks(&mut self, p: &[u8], q: &[u8], bound: Bound, marks: &mut [u8]) {
+        self.some_run(p, q, bound);
+        fill(marks, |s| self.rows.has(minutes(bound), s));
+    }
+
+    pub fn all_marks(&mut self, p: &[u8], q: &[u8], bound: Bound, marks: &mut [u8]) {
+        self.failing_run(p, q, bound);
+        fill(marks, |s| !self.rows.has(minutes(bound), s));
     }
 
     /// Rows of the states that make it: Q, with P all the way there.
@@ -101,6 +105,11 @@ impl<R: Rows> Counter<'_, R> {
                 // While minutes are left Q is not enough.
                 self.rows.choose(|_| false, |s| p[s] == 1);
                 self.fill::<After>(1, c);
+            }
+            Bound::Exactly(c) => {
+                self.fill::<Within>(0, 0);
+                self.rows.choose(|_| false, |s| p[s] == 1);
+                self.fill::<Within>(1, c);
             }
         }
     }
@@ -121,6 +130,12 @@ impl<R: Rows> Counter<'_, R> {
                 // While minutes are left Q doesn't end it, and P is asked for.
                 self.rows.choose(|s| p[s] == 0, |s| p[s] == 1);
                 self.fill::<After>(1, c);
+            }
+            Bound::Exactly(c) => {
+                self.rows.choose(neither, waits);
+                self.fill::<Late>(0, 0);
+                self.rows.choose(|s| p[s] == 0, |s| p[s] == 1);
+                self.fill::<Late>(1, c);
             }
         }
     }

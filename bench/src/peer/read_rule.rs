@@ -1,6 +1,6 @@
 //! Reading a rule typed as text, by recursive descent: refusals 64 to 66.
 
-use super::rule::{Bound, Node};
+use super::rule::{Bound, Node, MOST_EXACT};
 use super::show::Written;
 use super::{refusal, Outcome};
 
@@ -87,19 +87,30 @@ impl Reader<'_> {
         self.word(b"(")?;
         let a = self.formula()?;
         self.word(b" U")?;
-        let at_most = self.either(b'<', b'>')?;
-        self.word(b"=")?;
-        let c = self.minutes()?;
+        let bound = self.bound()?;
         self.word(b" ")?;
         let b = self.formula()?;
         self.word(b")")?;
-        Some((a, b, if at_most { Bound::AtMost(c) } else { Bound::AtLeast(c) }))
+        Some((a, b, bound))
     }
 
-    /// Up to 65,535, without leading zeros.
-    fn minutes(&mut self) -> Option<u32> {
+    fn bound(&mut self) -> Option<Bound> {
+        let sign = *self.text.get(self.at)?;
+        let (bound, most): (fn(u32) -> Bound, u32) = match sign {
+            b'<' => (Bound::AtMost, 65_535),
+            b'>' => (Bound::AtLeast, 65_535),
+            b'=' => (Bound::Exactly, MOST_EXACT),
+            _ => return None,
+        };
+        self.at += 1;
+        self.word(b"=")?;
+        self.minutes(most).map(bound)
+    }
+
+    /// Without leading zeros.
+    fn minutes(&mut self, most: u32) -> Option<u32> {
         let mut c = self.digit(|_| true)?;
-        while let Some(digit) = self.digit(|digit| c > 0 && 10 * c + digit <= 65_535) {
+        while let Some(digit) = self.digit(|digit| c > 0 && 10 * c + digit <= most) {
             c = 10 * c + digit;
         }
         Some(c)
@@ -152,11 +163,18 @@ fn node_bytes(node: &Node) -> [u8; 8] {
         Node::Not(a) => (2, 0, a as u16, 0, 0),
         Node::And(a, b) => (3, 0, a as u16, b as u16, 0),
         Node::Or(a, b) => (4, 0, a as u16, b as u16, 0),
-        Node::SomeRun(a, b, Bound::AtMost(c)) => (5, 1, a as u16, b as u16, c as u16),
-        Node::SomeRun(a, b, Bound::AtLeast(c)) => (5, 2, a as u16, b as u16, c as u16),
-        Node::AllRuns(a, b, Bound::AtMost(c)) => (6, 1, a as u16, b as u16, c as u16),
-        Node::AllRuns(a, b, Bound::AtLeast(c)) => (6, 2, a as u16, b as u16, c as u16),
+        Node::SomeRun(a, b, bound) => until_words(5, a, b, bound),
+        Node::AllRuns(a, b, bound) => until_words(6, a, b, bound),
     };
     let ([a, d], [b, e], [c, f]) = (u16::to_be_bytes(a), u16::to_be_bytes(b), u16::to_be_bytes(c));
     [operation, kind, a, d, b, e, c, f]
+}
+
+fn until_words(operation: u8, a: usize, b: usize, bound: Bound) -> (u8, u8, u16, u16, u16) {
+    let (kind, c) = match bound {
+        Bound::AtMost(c) => (1, c),
+        Bound::AtLeast(c) => (2, c),
+        Bound::Exactly(c) => (3, c),
+    };
+    (operation, kind, a as u16, b as u16, c as u16)
 }

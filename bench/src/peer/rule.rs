@@ -6,7 +6,11 @@ use super::{refusal, stated_length, word, Outcome};
 pub enum Bound {
     AtMost(u32),
     AtLeast(u32),
+    Exactly(u32),
 }
+
+/// The greatest exact bound.
+pub const MOST_EXACT: u32 = 255;
 
 #[derive(Clone, Copy)]
 pub enum Node {
@@ -29,6 +33,14 @@ impl Rule {
         let nodes = read_nodes(&bytes[7..])?;
         refuse_operands(&nodes)?;
         Ok(Rule { nodes })
+    }
+
+    /// Whether some bound is exact.
+    pub fn is_exact(&self) -> bool {
+        let exact = |node: &Node| {
+            matches!(node, Node::SomeRun(_, _, Bound::Exactly(_)) | Node::AllRuns(_, _, Bound::Exactly(_)))
+        };
+        self.nodes.iter().any(exact)
     }
 }
 
@@ -75,6 +87,7 @@ fn bound(kind: u8, c: u16) -> Option<Bound> {
     match kind {
         1 => Some(Bound::AtMost(u32::from(c))),
         2 => Some(Bound::AtLeast(u32::from(c))),
+        3 if u32::from(c) <= MOST_EXACT => Some(Bound::Exactly(u32::from(c))),
         _ => None,
     }
 }

@@ -1,7 +1,9 @@
-//! The marks of each node from those of its operands.
+//! The marks of each node from those of its operands. Exact bounds are counted to, a minute after the other.
 
 use super::chart::Chart;
+use super::count::Counter;
 use super::longest::{most, Longest, NONE, UNBOUNDED};
+use super::minutes::Minutes;
 use super::rule::{Bound, Node, Rule};
 use super::shortest::{Shortest, FAR};
 
@@ -10,6 +12,8 @@ pub struct Settler<'a> {
     shortest: Shortest,
     longest: Longest,
     bad: Vec<bool>,
+    /// Where some bound is exact.
+    counter: Option<Counter<'a, Minutes<'a>>>,
 }
 
 /// Row t of the rows settled so far.
@@ -18,9 +22,11 @@ pub fn row(rows: &[u8], n: usize, t: usize) -> &[u8] {
 }
 
 impl<'a> Settler<'a> {
-    pub fn new(chart: &'a Chart) -> Settler<'a> {
+    /// The numbers are for the rows of exact bounds, if there are some.
+    pub fn new(chart: &'a Chart, rule: &Rule, numbers: &'a mut [u32]) -> Settler<'a> {
         let n = chart.labels.len();
-        Settler { chart, shortest: Shortest::new(n), longest: Longest::new(&chart.out), bad: vec![false; n] }
+        let counter = rule.is_exact().then(|| Counter { labels: &chart.labels, rows: Minutes::new(chart, numbers) });
+        Settler { chart, shortest: Shortest::new(n), longest: Longest::new(&chart.out), bad: vec![false; n], counter }
     }
 
     /// Operands are lower than their node, so the rows are settled in order.
@@ -54,6 +60,7 @@ impl<'a> Settler<'a> {
                 self.longest.search(&self.chart.out, |s| p[s] == 1, most);
                 fill(marks, |s| self.longest.minutes[s] >= i64::from(c));
             }
+            Bound::Exactly(_) => self.counter.iter_mut().for_each(|counter| counter.some_marks(p, q, bound, marks)),
         }
     }
 
@@ -75,6 +82,7 @@ impl<'a> Settler<'a> {
                 self.shortest.search(&self.chart.into, |s| self.bad[s], |_| true, c - 1);
                 fill(marks, |s| self.shortest.minutes[s] == FAR);
             }
+            Bound::Exactly(_) => self.counter.iter_mut().for_each(|counter| counter.all_marks(p, q, bound, marks)),
         }
     }
 

@@ -1,6 +1,8 @@
 //! A run that shows why an until is marked, or isn't: check first, then refusals 60 to 62, then a run of the fewest steps.
 
+use super::arrows::ArrowLists;
 use super::counts::{Count, Missing, Passed, FAR};
+use super::exact_run::ExactRun;
 use super::layers::{Layers, POSITION};
 use super::rule::{Bound, Node, Rule};
 use super::{accept, refusal, Outcome};
@@ -44,10 +46,7 @@ fn write_run(
     let n = chart.labels.len();
     let until = asked(&rule, marks, n, node, state).ok_or(refusal(60, 0))?;
     let scratch = scratch.get_mut(..POSITIONS * n).ok_or(refusal(61, 0))?;
-    // No layer is needed whose run has no room.
-    let positions = POSITIONS.min(output.len() / POSITION);
-    let layers = Layers { out: &chart.out, numbers: &mut scratch[..positions * n] };
-    let written = until.run(layers, state, output);
+    let written = until.run(&chart.out, scratch, state, output);
     scratch.fill(0);
     written.ok_or(refusal(62, 0))
 }
@@ -64,6 +63,8 @@ enum Why {
     Within(u32),
     /// Q after so many minutes.
     After(u32),
+    /// Q after just so many minutes.
+    At(u32),
     /// No Q within so many minutes.
     Late(u32),
 }
@@ -76,6 +77,7 @@ fn asked<'a>(rule: &Rule, marks: &'a [u8], n: usize, node: usize, state: usize) 
     let (a, b, why) = match (rule.nodes[node], row(node)[state]) {
         (Node::SomeRun(a, b, Bound::AtMost(c)), 1) => (a, b, Why::Within(c)),
         (Node::SomeRun(a, b, Bound::AtLeast(c)), 1) => (a, b, Why::After(c)),
+        (Node::SomeRun(a, b, Bound::Exactly(c)), 1) => (a, b, Why::At(c)),
         (Node::AllRuns(a, b, Bound::AtMost(c)), 0) => (a, b, Why::Late(c)),
         _ => return None,
     };
@@ -84,20 +86,33 @@ fn asked<'a>(rule: &Rule, marks: &'a [u8], n: usize, node: usize, state: usize) 
 
 impl Until<'_> {
     /// Writes the run, if one has room.
-    fn run(&self, layers: Layers, state: usize, output: &mut [u8]) -> Option<usize> {
+    fn run(&self, out: &ArrowLists, scratch: &mut [u32], state: usize, output: &mut [u8]) -> Option<usize> {
         let (p, q) = (self.p, self.q);
+        // No position is looked for that has no room.
+        let positions = POSITIONS.min(output.len() / POSITION);
         let goal = |number: u32| move |s: usize| if q[s] == 1 { number } else { FAR };
         match self.why {
-            Why::Within(c) => found::<Passed>(layers, state, c, goal(0), |s| p[s] == 1, output),
-            Why::After(c) => found::<Missing>(layers, state, 0, goal(c), |s| p[s] == 1, output),
+            // Minutes by steps would not do: it takes a number for each minute at each state.
+            Why::At(c) => ExactRun::new(out, p, q, c as usize, scratch).write(state, positions, output),
+            Why::Within(c) => {
+                found::<Passed>(layers(out, scratch, positions), state, c, goal(0), |s| p[s] == 1, output)
+            }
+            Why::After(c) => {
+                found::<Missing>(layers(out, scratch, positions), state, 0, goal(c), |s| p[s] == 1, output)
+            }
             Why::Late(c) => {
                 // Past the bound a run may be anywhere; where neither P nor Q holds it fails at once. It has the fewest
                 // steps, so no position before its last is past the bound.
                 let end = |s: usize| if p[s] | q[s] == 1 { c + 1 } else { 0 };
-                found::<Missing>(layers, state, 0, end, |s| p[s] > q[s], output)
+                found::<Missing>(layers(out, scratch, positions), state, 0, end, |s| p[s] > q[s], output)
             }
         }
     }
+}
+
+/// A layer for each position.
+fn layers<'a>(out: &'a ArrowLists, scratch: &'a mut [u32], positions: usize) -> Layers<'a> {
+    Layers { out, numbers: &mut scratch[..positions * out.states()] }
 }
 
 fn found<C: Count>(

@@ -59,6 +59,7 @@ fn put_until(nodes: &[Node], a: usize, b: usize, letter: char, bound: Bound, tex
     match bound {
         Bound::AtMost(c) => put_number(" U<=", c, text),
         Bound::AtLeast(c) => put_number(" U>=", c, text),
+        Bound::Exactly(c) => put_number(" U==", c, text),
     }
     text.push(' ');
     put_node(nodes, b, text);

@@ -31,7 +31,7 @@ pub fn told(Outcome { number, place, entry }: Outcome) -> Told {
 
 /// Outcome of the peer with the largest tables.
 pub fn outcome(chart: &[u8], rule: &[u8]) -> Told {
-    told(call(chart, rule, 64 * 256, 4 * 256).outcome)
+    told(call(chart, rule, 64 * 256, 256 * 256).outcome)
 }
 
 /// What the lent tables hold before a call.
@@ -74,14 +74,20 @@ pub fn show(chart: &[u8], rule: &[u8], ask: Ask) -> ShowAnswer {
     ShowAnswer { answer, marks, scratch, output }
 }
 
+/// The numbers that check asks for: more if some bound is exact.
+pub fn check_scratch(n: usize, nodes: &[Node]) -> usize {
+    n * if nodes.iter().any(|node| node.kind == 3) { 256 } else { 4 }
+}
+
 /// The marks of an accepted call, after tables a little longer than asked for are found kept at their ends.
 pub fn marks(labels: &[u16], arrows: &[Arrow], nodes: &[Node]) -> Vec<u8> {
     let (n, k) = (labels.len(), nodes.len());
-    let answer = call(&bytes::chart(labels, arrows), &bytes::rule(nodes), k * n + 3, 4 * n + 3);
+    let numbers = check_scratch(n, nodes);
+    let answer = call(&bytes::chart(labels, arrows), &bytes::rule(nodes), k * n + 3, numbers + 3);
     assert_eq!(answer.outcome, Outcome::ACCEPTED);
     assert_eq!(answer.marks[k * n..], [LENT_MARK; 3]);
-    assert!(answer.scratch[..4 * n].iter().all(|&number| number == 0));
-    assert_eq!(answer.scratch[4 * n..], [LENT_NUMBER; 3]);
+    assert!(answer.scratch[..numbers].iter().all(|&number| number == 0));
+    assert_eq!(answer.scratch[numbers..], [LENT_NUMBER; 3]);
     answer.marks[..k * n].to_vec()
 }
 

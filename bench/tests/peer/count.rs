@@ -3,8 +3,9 @@
 
 use crate::common::{arrow, call, node, outcome, told, word, Answer, Told, LENT_MARK, LENT_NUMBER};
 use bench::bytes::{self, Node};
+use bench::exact::{self, made_exact};
 use bench::peer::{self, Outcome};
-use bench::{counted, drawn};
+use bench::{counted, drawn, families};
 
 /// What the quick peer answers and leaves, after the plain one is found to answer and leave the same.
 fn count(chart: &[u8], rule: &[u8], marks: usize, scratch: usize) -> Answer {
@@ -24,7 +25,7 @@ fn judge(chart: &[u8], rule: &[u8], what: &str) {
     let (n, k) = (usize::from(word(chart, 5)), usize::from(word(rule, 5)));
     let counted = count(chart, rule, k * n + 3, 256 * n + 3);
     assert_eq!(counted.outcome, Outcome::ACCEPTED, "{what}");
-    assert!(counted.marks == call(chart, rule, k * n + 3, 4 * n).marks, "{what}");
+    assert!(counted.marks == call(chart, rule, k * n + 3, 256 * n).marks, "{what}");
     let (cleared, kept) = counted.scratch.split_at(256 * n);
     assert!(cleared.iter().all(|&number| number == 0), "{what}");
     assert_eq!(kept, [LENT_NUMBER; 3], "{what}");
@@ -33,7 +34,9 @@ fn judge(chart: &[u8], rule: &[u8], what: &str) {
 #[test]
 fn drawn_charts_have_the_marks_of_check() {
     for seed in 0..1_000 {
-        judge(&drawn::chart(seed), &counted::near(drawn::rule(seed)), &format!("seed {seed}"));
+        let near = counted::near(drawn::rule(seed));
+        judge(&drawn::chart(seed), &made_exact(near.clone()), &format!("seed {seed}, exact"));
+        judge(&drawn::chart(seed), &near, &format!("seed {seed}"));
     }
 }
 
@@ -44,6 +47,7 @@ fn hurried_charts_have_the_marks_of_check() {
         let (chart, rule) = (drawn::hurried(seed), counted::near(drawn::rule(seed)));
         if outcome(&chart, &rule) == (0, 0, 0) {
             judge(&chart, &rule, &format!("seed {seed}"));
+            judge(&chart, &made_exact(rule), &format!("seed {seed}, exact"));
             accepted += 1;
         }
     }
@@ -55,7 +59,7 @@ fn hurried_charts_have_the_marks_of_check() {
 fn every_bound_has_the_marks_of_check() {
     for c in 0..=255 {
         let seed = 7 * u64::from(c);
-        for (operation, kind) in [(5, 1), (5, 2), (6, 1), (6, 2)] {
+        for (operation, kind) in [(5, 1), (5, 2), (5, 3), (6, 1), (6, 2), (6, 3)] {
             let nodes = [node(1, 0, c % 16, 0, 0), node(1, 0, c / 16, 0, 0), node(operation, kind, 0, 1, c)];
             let what = format!("seed {seed}, {operation} {kind}, {c}");
             judge(&drawn::chart(seed), &bytes::rule(&nodes), &what);
@@ -67,6 +71,14 @@ fn every_bound_has_the_marks_of_check() {
 fn inputs_have_the_marks_of_check() {
     for (chart, rule) in counted::rows() {
         judge(&counted::chart(chart).expect(chart), &counted::rule(&rule).expect(&rule), &format!("{chart} {rule}"));
+    }
+}
+
+#[test]
+fn exact_inputs_have_the_marks_of_check() {
+    for row in exact::rows() {
+        let chart = counted::chart(row.chart).or_else(|| families::chart(row.chart, 256, 2048)).expect(row.chart);
+        judge(&chart, &counted::rule(&row.exact).expect(&row.exact), &format!("{} {}", row.chart, row.exact));
     }
 }
 

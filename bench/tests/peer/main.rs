@@ -4,6 +4,7 @@ mod common;
 mod count;
 mod counted;
 mod drawn;
+mod exact;
 mod handover;
 mod inputs;
 mod items;

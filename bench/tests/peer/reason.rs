@@ -17,6 +17,7 @@ impl Until<'_> {
         match (self.node.operation, self.node.kind) {
             (5, 1) => self.q[state] && moment <= c,
             (5, 2) => self.q[state] && moment >= c,
+            (5, _) => self.q[state] && moment == c,
             _ => moment > c || !self.p[state] && !self.q[state],
         }
     }

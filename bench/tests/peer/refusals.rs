@@ -82,12 +82,16 @@ fn nodes_of_rule() {
         node(2, 0, 0, 1, 0),
         node(3, 0, 0, 0, 1),
         node(5, 0, 0, 0, 1),
-        node(6, 3, 0, 0, 1),
+        node(6, 4, 0, 0, 1),
+        node(3, 3, 0, 0, 0),
+        node(5, 3, 0, 0, 256),
+        node(6, 3, 0, 0, 65_535),
     ];
     for form in wrong {
         assert_eq!(nodes_refused(&[node(2, 0, 9, 0, 0), form]), (14, 1, 3));
     }
     assert_eq!(nodes_refused(&[node(2, 0, 0, 0, 0)]), (15, 0, 3));
+    assert_eq!(nodes_refused(&[node(5, 3, 0, 0, 255)]), (15, 0, 3));
     assert_eq!(nodes_refused(&[leaf, leaf, node(5, 1, 0, 2, 0)]), (15, 2, 3));
     assert_eq!(nodes_refused(&[leaf, node(3, 0, 0, 0, 0)]), (16, 0, 3));
     assert_eq!(nodes_refused(&[leaf, leaf, node(2, 0, 0, 0, 0)]), (16, 1, 3));
@@ -97,6 +101,12 @@ fn nodes_of_rule() {
 fn tables() {
     assert_eq!(refused(&good_chart(), &good_rule(), 8, 11), (17, 0, 5));
     assert_eq!(refused(&good_chart(), &good_rule(), 9, 11), (18, 0, 5));
+    let leaf = node(0, 0, 0, 0, 0);
+    let deep = bytes::rule(&[leaf, leaf, node(6, 3, 0, 1, 0), leaf, node(5, 1, 2, 3, 9)]);
+    assert_eq!(refused(&good_chart(), &deep, 15, 767), (18, 0, 5));
+    assert_eq!(call(&good_chart(), &deep, 15, 768).outcome.number, 0);
+    let still = bytes::chart(&[0], &[arrow(0, 0, 0, 0)]);
+    assert_eq!(refused(&still, &deep, 5, 257), (19, 0, 1));
 }
 
 /// What is told of a chart of n states.

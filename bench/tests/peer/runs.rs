@@ -1,7 +1,7 @@
 //! The peer against the meaning itself on small random charts: untils are decided over pairs of a state and the minutes
 //! passed, where the minutes stop counting once they are past the bound. A run counts only if its moments pass every number.
 
-use crate::common::{marks, node};
+use crate::common::{check_scratch, marks, node};
 use bench::bytes::{self, Arrow, Node, NO_END};
 use bench::peer;
 use bench::random::Random;
@@ -73,7 +73,11 @@ fn rows(labels: &[u16], arrows: &[Arrow], nodes: &[Node]) -> Vec<Vec<bool>> {
         let left = rows.get(usize::from(node.a)).cloned().unwrap_or_default();
         let right = rows.get(usize::from(node.b)).cloned().unwrap_or_default();
         let c = usize::from(node.c);
-        let meets = |t: usize| if node.kind == 1 { t <= c } else { t >= c };
+        let meets = |t: usize| match node.kind {
+            1 => t <= c,
+            2 => t >= c,
+            _ => t == c,
+        };
         let row = match node.operation {
             0 => vec![true; n],
             1 => labels.iter().map(|label| label >> node.a & 1 == 1).collect(),
@@ -137,7 +141,7 @@ fn two_operands(a: u16, b: u16, random: &mut Random) -> Node {
     if random.chance(1, 6) {
         return node(3 + random.below(2) as u8, 0, a, b, 0);
     }
-    let (operation, kind) = (5 + random.below(2) as u8, 1 + random.below(2) as u8);
+    let (operation, kind) = (5 + random.below(2) as u8, 1 + random.below(3) as u8);
     node(operation, kind, a, b, random.below(12) as u16)
 }
 
@@ -170,7 +174,7 @@ fn random_charts() {
         let nodes = random_rule(&mut random);
         let (n, k) = (labels.len(), nodes.len());
         if let Some(place) = timelock(n, &arrows) {
-            let (mut table, mut scratch) = (vec![9; k * n], vec![9; 4 * n]);
+            let (mut table, mut scratch) = (vec![9; k * n], vec![9; check_scratch(n, &nodes)]);
             let outcome = peer::check(&bytes::chart(&labels, &arrows), &bytes::rule(&nodes), &mut table, &mut scratch);
             assert_eq!((outcome.number, outcome.place as usize, outcome.entry), (19, place, 1));
             refused += 1;

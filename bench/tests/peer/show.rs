@@ -1,7 +1,7 @@
 //! The peer's shown runs on small random charts: each is a true reason, and no fewer steps make one, which is searched for
 //! forwards over pairs of a state and the minutes passed.
 
-use crate::common::{arrow, marks, node, show, Ask, LENT_MARK, LENT_NUMBER};
+use crate::common::{arrow, check_scratch, marks, node, show, Ask, LENT_MARK, LENT_NUMBER};
 use crate::reason::{judge, positions, Until};
 use crate::runs::{random_chart, random_rule, timelock, Pairs};
 use bench::bytes::{self, Arrow, Node, NO_END};
@@ -54,7 +54,7 @@ impl Case {
         let (number, written) = (shown.answer.outcome.number, shown.answer.written);
         assert_eq!(shown.answer.outcome.place, 0);
         assert_eq!(shown.marks, [&self.marks[..], &[LENT_MARK; 3]].concat());
-        let cleared = if number == 60 { 4 * n } else { 257 * n };
+        let cleared = if number == 60 { check_scratch(n, &self.nodes) } else { 257 * n };
         assert!(shown.scratch[..cleared].iter().all(|&number| number == 0));
         assert!(shown.scratch[cleared..].iter().all(|&number| number == LENT_NUMBER));
         assert!(shown.output[written..].iter().all(|&byte| byte == LENT_MARK));
@@ -93,7 +93,7 @@ fn random_case(random: &mut Random, bounds: usize) -> Option<Case> {
     let (labels, arrows) = random_chart(random);
     let mut nodes = random_rule(random);
     for node in nodes.iter_mut().filter(|node| node.operation >= 5) {
-        node.c = random.below(bounds) as u16;
+        node.c = random.below(if node.kind == 3 { bounds.min(256) } else { bounds }) as u16;
     }
     timelock(labels.len(), &arrows).is_none().then(|| Case::new(labels, arrows, nodes))
 }
@@ -157,6 +157,23 @@ fn as_many_steps_as_are_shown() {
     assert_eq!(run(&[0], &one, always(256), 1_541), (62, vec![]));
     assert_eq!(run(&[0], &one, always(257), 99_999), (62, vec![]));
     assert_eq!(run(&[0], &one, until(6, 1, 3, 255), 1_542).1.len(), 257);
+}
+
+/// Exactly so many minutes, in as few steps as can be; those in no time are steps too.
+#[test]
+fn exact_bounds() {
+    let short = [arrow(0, 1, 5, 10), arrow(1, 2, 0, 4), arrow(2, 0, 20, NO_END)];
+    assert_eq!(run(&[1, 2, 4], &short, until(5, 3, 2, 14), 18), (0, vec![(0, 10), (1, 4), (2, 0)]));
+    assert_eq!(run(&[1, 2, 4], &short, until(5, 3, 2, 14), 17), (62, vec![]));
+    assert_eq!(run(&[1, 2, 4], &short, until(5, 3, 2, 15), 18), (60, vec![]));
+    assert_eq!(run(&[1, 2, 4], &short, until(6, 3, 2, 14), 18), (60, vec![]));
+    let always = |c| [node(0, 0, 0, 0, 0), node(0, 0, 0, 0, 0), node(5, 3, 0, 1, c)];
+    let turns = [arrow(1, 0, 0, 0), arrow(0, 1, 1, 1)];
+    assert_eq!(run(&[0, 0], &turns, always(128), 1_542).1.len(), 256);
+    assert_eq!(run(&[0, 0], &turns, always(129), 99_999), (62, vec![]));
+    assert_eq!(run(&[0], &[arrow(0, 0, 3, NO_END)], always(255), 12), (0, vec![(0, 255), (0, 0)]));
+    assert_eq!(run(&[0], &[arrow(0, 0, 1, 1)], always(255), 1_536).1.len(), 256);
+    assert_eq!(run(&[0], &[arrow(0, 0, 1, 1)], always(0), 6), (0, vec![(0, 0)]));
 }
 
 /// One step may take more minutes than 16 bits hold.

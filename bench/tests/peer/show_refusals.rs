@@ -46,6 +46,21 @@ fn no_such_mark() {
     refused(&within, Ask { node: 3, scratch: 12, output: 0, ..WHOLE });
 }
 
+/// With an exact bound, check asks for 256n numbers before show asks for 257n, and leaves as many at 0.
+#[test]
+fn exact_bounds() {
+    let exact = rule(5, 3, 5);
+    let told = |ask, cleared, marked| answer(&chart(), &exact, ask, cleared, marked);
+    assert_eq!(told(WHOLE, 771, true), (0, 0, 0));
+    assert_eq!(told(Ask { scratch: 767, ..WHOLE }, 0, false), (18, 0, 5));
+    assert_eq!(told(Ask { scratch: 768, ..WHOLE }, 768, true), (61, 0, 5));
+    assert_eq!(told(Ask { scratch: 770, output: 0, ..WHOLE }, 768, true), (61, 0, 5));
+    assert_eq!(told(Ask { state: 1, scratch: 780, ..WHOLE }, 768, true), (60, 0, 3));
+    assert_eq!(told(Ask { output: 17, scratch: 780, ..WHOLE }, 771, true), (62, 0, 5));
+    assert_eq!(answer(&chart(), &rule(6, 3, 5), WHOLE, 768, true), (60, 0, 3));
+    assert_eq!(answer(&chart(), &rule(5, 3, 256), WHOLE, 0, false), (14, 2, 3));
+}
+
 #[test]
 fn short_buffers() {
     let rule = rule(5, 1, 5);

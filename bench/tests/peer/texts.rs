@@ -39,7 +39,7 @@ fn not(a: u16) -> Node {
 
 #[test]
 fn each_form_there_and_back() {
-    let trees: [(&str, &[Node]); 8] = [
+    let trees: [(&str, &[Node]); 10] = [
         ("true", &[yes()]),
         ("!L15", &[label(15), not(0)]),
         ("(L0 & L9)", &[label(0), label(9), node(3, 0, 0, 1, 0)]),
@@ -47,6 +47,8 @@ fn each_form_there_and_back() {
         ("E(L0 U<=0 L1)", &[label(0), label(1), node(5, 1, 0, 1, 0)]),
         ("E(L0 U>=65535 L1)", &[label(0), label(1), node(5, 2, 0, 1, 65_535)]),
         ("A(true U<=14 L2)", &[yes(), label(2), node(6, 1, 0, 1, 14)]),
+        ("E(true U==0 L2)", &[yes(), label(2), node(5, 3, 0, 1, 0)]),
+        ("A(true U==255 L2)", &[yes(), label(2), node(6, 3, 0, 1, 255)]),
         ("A(!L1 U>=10 L1)", &[label(1), not(0), label(1), node(6, 2, 1, 2, 10)]),
     ];
     for (text, nodes) in trees {
@@ -75,7 +77,14 @@ fn no_formula_could_go_on() {
         ("(L0 &L1)", 5),
         ("(L0 & L1", 8),
         ("E(L0 & L1)", 5),
-        ("A(true U==14 L2)", 8),
+        ("A(true U=14 L2)", 9),
+        ("A(true U=<14 L2)", 9),
+        ("A(true U== L2)", 10),
+        ("A(true U==00 L2)", 11),
+        ("A(true U==256 L2)", 12),
+        ("A(true U==300 L2)", 12),
+        ("A(true U==1000 L2)", 13),
+        ("A(true U==2550 L2)", 13),
         ("A(true U<= L2)", 10),
         ("A(true U<=007 L2)", 11),
         ("A(true U<=65536 L2)", 14),

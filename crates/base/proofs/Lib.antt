@@ -5,3 +5,4 @@ pub mod Every
 pub mod Sum
 pub mod Pigeonhole
 pub mod Entries
+pub mod Same

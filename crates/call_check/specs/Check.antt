@@ -1,4 +1,5 @@
--- The call check (01, "Calls"): a chart and a rule judged by the first engine, on 4n numbers.
+-- The call check (01, "Calls"): a chart and a rule judged by the first engine, on 4n numbers; for exact bounds minute by
+-- minute, on 256 × n (02, paper 7).
 use mathlib.Core.Bool.{false}
 use mathlib.Core.List.{List}
 use Prim.Native.Nat.{ℕ}

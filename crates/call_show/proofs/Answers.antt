@@ -8,9 +8,9 @@ use Prim.Native.Nat.{ℕ, _+_, _*_, _≤_, _<_}
 use native.Mathlib.Omega.{arith}
 use lib.ListN.{length, drop, replicate, length-replicate}
 use lib.Dec.{leb, ltb}
-use borrow.Author.Tests.{ne-eqb, leb-false, ltb-false, not-false}
-use Rattle.base.proofs.Truth.{or-false, no-test}
-use Rattle.tctl.specs.Chart.{Most, upTo, noEnd, states}
+use borrow.Author.Tests.{eqb-true, ne-eqb, leb-false, ltb-false, not-false}
+use Rattle.base.proofs.Truth.{or-false, cond-elim, no-test}
+use Rattle.tctl.specs.Chart.{states}
 use Rattle.tctl.specs.Formula.{Formula}
 use Rattle.tctl.specs.Accepted.{Accepted}
 use Rattle.model.proofs.Marks.{row-below}
@@ -29,42 +29,29 @@ use Rattle.chart.proofs.WellFormed.{well-formed}
 use Rattle.chart.proofs.Reading.{has-states}
 use Rattle.rule.specs.declared.NodeWords.{NodeWords}
 use Rattle.rule.specs.Bytes.{nodeCount, nodeWords}
-use Rattle.rule.specs.Refusals.{ruleTable}
+use Rattle.rule.specs.Refusals.{ruleTable, isExact, minutely}
 use Rattle.rule.specs.Formula.{formulaAt}
 use Rattle.rule.proofs.Accepted.{accepted}
-use Rattle.rule.proofs.Read.{ReadNode, a-lower, b-lower}
+use Rattle.rule.proofs.Read.{ReadNode, until-bound, a-lower, b-lower}
 use Rattle.loops.specs.Refusal.{loopRow}
-use Rattle.room.specs.Room.{scratchSize}
 use Rattle.until_start.proofs.Lent.{joins}
-use Rattle.shown.specs.Shown.{Position, Shortest}
-use Rattle.shown.specs.Steps.{Quest}
-use Rattle.shown.specs.Showable.{showable, questOf}
-use Rattle.shown.proofs.Walks.{SlotUpTo}
-use Rattle.step_numbers.specs.Stored.{heft}
-use Rattle.step_numbers.proofs.Slots.{arrow-slots}
+use Rattle.shown.specs.Shown.{Position, durationAt, Shortest}
+use Rattle.shown.specs.Showable.{showable, searchOf}
 use Rattle.run_walk.specs.RunBytes.{runBytes}
 use Rattle.call_check.specs.Check.{checkTable, checkRefusal, Checked}
-use Rattle.judge.specs.Judge.{judgeTable, marksOf, marksAfter}
+use Rattle.judge.specs.Judge.{sizeOf, judgeTable, marksOf, marksAfter}
 use Rattle.judge.proofs.Chain.{Admitted, judge-numbered}
 use Rattle.judge.proofs.Marks.{front-size, marks-length}
 use Rattle.judge.proofs.Promise.{cleared-admitted, accepted-marks, cleared-scratch}
 use Rattle.loops.proofs.Scratch.{unused}
 use Rattle.show_refusals.specs.Rows.{markRows, MarksLent}
 use Rattle.show_refusals.proofs.Words.{shown-by, shown-cases}
-use Rattle.show_run.specs.Run.{questIn, runIn, Searchable, Ran}
+use Rattle.show_run.specs.Run.{searchIn, runIn, Searchable, Ran}
 use Rattle.show_refusals.specs.Fits.{tableSize, tableCleared, unfit}
 use Rattle.call_show.specs.Show.{noMark, stepsOf, TrueRun, showTable, showRefusal, tableAfter, Writable, Showed}
-use Rattle.call_show.proofs.Quest.{quest-node, run-node}
-use Rattle.show_run.proofs.Found.{fair-target}
+use Rattle.call_show.proofs.Search.{run-node}
 use Rattle.call_show.proofs.Fitting.{told-none, unfit-none, fit-shortest, written-iff, run-told}
 use Rattle.call_show.proofs.Accepted.{check-chart, mark-right, no-mark, rows-mean}
-
--- an arrow whose words are in range
-in-slot :
-    (start end fewest : ℕ) (most : Most) → (fewest ≤ 65535) × (heft most ≤ 65537) →
-    SlotUpTo 65537 (record { start = start; end = end; fewest = fewest; most = most })
-in-slot start end fewest (upTo m) h = (omega (arith, h .0), h .1)
-in-slot start end fewest noEnd h = (omega (arith, h .0), tt)
 
 -- ── After check ──
 
@@ -94,7 +81,7 @@ module _
   -- the promise, of what differs from answer to answer
   showed :
       {x : Outcome} {r : ℕ} {newTable newOutput : List ℕ} → x ≡ showRefusal chart rule marks scratch node state output →
-      newTable ≡ tableAfter chart (o .number) (x .number) scratch → (shown : List Position) →
+      newTable ≡ tableAfter chart rule (o .number) (x .number) scratch → (shown : List Position) →
       (¬ (x .number ≡ 0) → shown ≡ []) → AtFront (runBytes shown) r output newOutput → Writable shown →
       (x .number ≡ 0 → Shortest (TrueRun chart rule node state) shown) →
       Showed chart rule marks scratch node state output (record { outcome = x; written = r }) newMarks newTable newOutput
@@ -103,7 +90,7 @@ module _
         answer = answer;
         written = c .written ∙ ap (λ k. marksAfter chart rule k marks) number;
         meaning = λ z. c .meaning (number ∙ z);
-        cleared = cleared ∙ ap (λ k. tableAfter chart k (x .number) scratch) number;
+        cleared = cleared ∙ ap (λ k. tableAfter chart rule k (x .number) scratch) number;
         rows = λ z. rows-mean chart rule (check-chart chart rule marks scratch z) node state output;
         shown = shown;
         refused = refused;
@@ -113,7 +100,7 @@ module _
       }
 
   -- scratch as check leaves it
-  left : {k : ℕ} → ¬ (k ≡ 0) → ¬ (k ≡ 62) → newScratch ≡ tableAfter chart (o .number) k scratch
+  left : {k : ℕ} → ¬ (k ≡ 0) → ¬ (k ≡ 62) → newScratch ≡ tableAfter chart rule (o .number) k scratch
   unfolding tableAfter
   left {k} h i = rw (ne-eqb k 0 h, ne-eqb k 62 i) (c .cleared)
 
@@ -146,7 +133,7 @@ module _
     admitted = cleared-admitted c (inl z)
 
     abbrev size : ℕ
-    size = scratchSize n
+    size = sizeOf false chart rule
 
     zeroed : newScratch ≡ replicate size 0 ++ drop size scratch
     zeroed = cleared-scratch c (inl z)
@@ -256,45 +243,57 @@ module _
               turn (inl h) = below (omega arith)
               turn (inr h) = below (omega (arith, h .0))
 
+          -- the c of an exact bound is at most 255
+          exact : isExact v ≡ true → v .c < 256
+          exact e = turn until
+            where
+              bound : 5 ≤ v .operation → v .c < 256
+              bound h = omega (arith, until-bound node-read h .2 (eqb-true (v .kind) 3 e))
+
+              turn : (v .operation ≡ 5) ⊎ ((v .operation ≡ 6) × (v .kind ≡ 1)) → v .c < 256
+              turn (inl h) = bound (omega arith)
+              turn (inr h) = bound (omega (arith, h .0))
+
           pub searchable : Searchable chart m a v newMarks state newScratch
           searchable =
               subst (λ i. Searchable chart i a v newMarks state newScratch) (sym en)
               (record {
                 passed = record { states = refl; arrows = arrows; unrefused = admitted .of-chart };
                 small = small;
+                exact = exact;
                 left = omega (arith, row-below n (operands .0), admitted .table, marks-size);
                 right = omega (arith, row-below n (operands .1), admitted .table, marks-size);
                 inside = state-inside;
                 room = table-inside;
               })
 
-          module _ {r : ℕ} {newOutput : List ℕ} (ran : Ran chart (questIn m newMarks v) state r output newOutput) where
+          module _ {r : ℕ} {newOutput : List ℕ} (ran : Ran chart (searchIn m newMarks v) state r output newOutput) where
             abbrev f : Formula
             f = formulaAt rule node
 
             abbrev run : List Position
-            run = runIn (chartOf chart .arrows) (questOf (chartOf chart) f) state (length output)
+            run = runIn (chartOf chart .arrows) (searchOf (chartOf chart) f) state (length output)
 
             low : state < states (chartOf chart)
             low = omega (arith, has-states passed, state-inside)
 
             -- the run is the formula's, since the marks are right
-            front : AtFront (runBytes run) r output newOutput
-            front =
+            same : runIn (chartOf chart .arrows) (searchIn n newMarks v) state (length output) ≡ run
+            same =
                 let right = mark-right chart rule newMarks acc (c .meaning z) in
-                let same =
                 run-node (chartOf chart) node-read (joins passed false) until newMarks (right (v .a) (operands .0))
-                (right (v .b) (operands .1)) state-inside (length output) in
-                subst (λ x. AtFront (runBytes x) r output newOutput) same
-                (subst (λ i. Ran chart (questIn i newMarks v) state r output newOutput) en ran .front)
+                (right (v .b) (operands .1)) state-inside (length output)
+
+            ran-here : Ran chart (searchIn n newMarks v) state r output newOutput
+            ran-here = subst (λ i. Ran chart (searchIn i newMarks v) state r output newOutput) en ran
+
+            front : AtFront (runBytes run) r output newOutput
+            front = subst (λ x. AtFront (runBytes x) r output newOutput) same (ran-here .front)
 
             told : Writable run
             told =
-                let need = ap (λ (q : Quest). q .need) (quest-node (chartOf chart) node-read until) in
-                run-told acc f low (length output)
-                (omega (arith, has-states passed, chart-shape .few-states))
-                (omega (arith, need, fair-target v small .need))
-                (λ b h. in-slot (b .start) (b .end) (b .fewest) (b .most) (arrow-slots chart (ran .slots) b h))
+                run-told acc f low (length output) (omega (arith, has-states passed, chart-shape .few-states))
+                (λ i. subst (λ x. durationAt x i ≤ 65537) same (ran-here .brief i))
 
             none-fits : (unfit (length output) (stepsOf chart rule node state) ≡ true) ↔ (r ≡ 0)
             none-fits = written-iff acc f low (length output) front
@@ -309,11 +308,11 @@ module _
               -- past the table scratch is as lent: check cleared no more
               zeros : newTable ≡ tableCleared n scratch
               zeros =
-                  let less : scratchSize n ≤ tableSize n = omega arith in
+                  let less : size ≤ tableSize n =
+                  cond-elim (λ s. s ≤ tableSize n) (minutely false rule) (λ e. omega arith) (λ e. omega arith) in
                   let room : tableSize n ≤ length scratch = omega (arith, table-inside, kept-size) in
                   let past =
-                  unused (scratchSize n) (tableSize n) scratch (replicate (scratchSize n) 0)
-                  (length-replicate {A = ℕ} (scratchSize n) 0) less room in
+                  unused size (tableSize n) scratch (replicate size 0) (length-replicate {A = ℕ} size 0) less room in
                   cleared ∙
                   ap (λ i. tableCleared i newScratch) en ∙
                   ap (tableCleared n) zeroed ∙
@@ -326,7 +325,7 @@ module _
               unfit-showed {y} h i =
                   let none = none-fits .1 i in
                   showed (last (h ∙ sym (first-met 62 _ 0 [] (ap whole none))))
-                  (zeros ∙ sym (ap (λ (y : Outcome). tableAfter chart (o .number) (y .number) scratch) h))
+                  (zeros ∙ sym (ap (λ (y : Outcome). tableAfter chart rule (o .number) (y .number) scratch) h))
                   run
                   (λ _. unfit-none (chartOf chart .arrows) _ state (length output) (stepsOf chart rule node state) none)
                   front told
@@ -339,7 +338,7 @@ module _
               run-showed {y} h i =
                   let some = no-test none-fits i in
                   showed (last (h ∙ sym (first-passed 62 _ [] (ap whole some))))
-                  (zeros ∙ sym (ap (λ (y : Outcome). tableAfter chart (o .number) (y .number) scratch) h))
+                  (zeros ∙ sym (ap (λ (y : Outcome). tableAfter chart rule (o .number) (y .number) scratch) h))
                   run
                   (λ j. absurd (j (ap (λ (y : Outcome). y .number) h)))
                   front told

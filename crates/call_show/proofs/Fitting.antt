@@ -3,7 +3,6 @@ use mathlib.Core.Path.{_≡_, refl, sym, ap, subst, _∙_}
 use mathlib.Core.Logic.{_↔_, by-cases}
 use mathlib.Core.Bool.{true, false, cond, false≢true}
 use mathlib.Core.List.{List, []}
-use mathlib.Core.List.{List·Memᴰ}
 use mathlib.Core.Option.{Option, none, some}
 use Prim.Native.Nat.{ℕ, suc, _*_, _≤_, _<_}
 use native.Mathlib.Omega.{arith}
@@ -17,11 +16,10 @@ use Rattle.tctl.specs.Formula.{Formula}
 use Rattle.tctl.specs.Accepted.{Accepted}
 use Rattle.tctl.proofs.Drawn.{accepted-drawn}
 use Rattle.append.specs.Piece.{AtFront}
-use Rattle.shown.specs.Shown.{Position, Reason, Shortest}
-use Rattle.shown.specs.Steps.{Quest, walk, fewestSteps}
-use Rattle.shown.specs.Showable.{questOf}
-use Rattle.shown.proofs.Table.{walk-length}
-use Rattle.shown.proofs.Walks.{SlotUpTo, walk-below, walk-brief}
+use Rattle.shown.specs.Shown.{Position, stateAt, durationAt, Reason, Shortest}
+use Rattle.shown.specs.Search.{Search, walkBy}
+use Rattle.shown.specs.Showable.{searchOf, stepsOf}
+use Rattle.shown.proofs.Walks.{walk-by-length, walk-below}
 use Rattle.shown.proofs.Meaning.{found-shortest, none-iff}
 use Rattle.run_walk.specs.RunBytes.{runBytes}
 use Rattle.run_walk.proofs.RunBytes.{run-bytes-length}
@@ -32,20 +30,20 @@ use Rattle.call_show.specs.Show.{Writable}
 pub told-none : Writable []
 told-none = record { states = λ i. omega arith; durations = λ i. omega arith }
 
-module _ (arrows : List Arrow) (z : Quest) (s room : ℕ) where
+module _ (arrows : List Arrow) (z : Search) (s room : ℕ) where
   pub unfit-none : (steps : Option ℕ) → unfit room steps ≡ true → fitting arrows z s room steps ≡ []
   unfit-none none e = refl
-  unfit-none (some k) e = ap {B = List Position} (λ b. cond b [] (walk arrows z k s)) e
+  unfit-none (some k) e = ap {B = List Position} (λ b. cond b [] (walkBy arrows z k s)) e
 
 module _ {G : Chart} (acc : Accepted G) (f : Formula) {s : ℕ} (low : s < states G) (room : ℕ) where
   abbrev arrows : List Arrow
   arrows = G .arrows
 
-  abbrev z : Quest
-  z = questOf G f
+  abbrev z : Search
+  z = searchOf G f
 
   abbrev steps : Option ℕ
-  steps = fewestSteps arrows z s
+  steps = stepsOf G f s
 
   abbrev run : List Position
   run = runIn arrows z s room
@@ -57,7 +55,7 @@ module _ {G : Chart} (acc : Accepted G) (f : Formula) {s : ℕ} (low : s < state
           (o : Option ℕ) → steps ≡ o → unfit room o ≡ false → Shortest (Reason G f s) (fitting arrows z s room o)
       turn none e h = absurd (false≢true (sym h))
       turn (some k) e h =
-          subst (λ b. Shortest (Reason G f s) (cond b [] (walk arrows z k s))) (sym h) (found-shortest acc f low e)
+          subst (λ b. Shortest (Reason G f s) (cond b [] (walkBy arrows z k s))) (sym h) (found-shortest acc f low e)
 
   fit-some : unfit room steps ≡ false → 1 ≤ length run
   fit-some = turn steps
@@ -65,7 +63,7 @@ module _ {G : Chart} (acc : Accepted G) (f : Formula) {s : ℕ} (low : s < state
       turn : (o : Option ℕ) → unfit room o ≡ false → 1 ≤ length (fitting arrows z s room o)
       turn none h = absurd (false≢true (sym h))
       turn (some k) h =
-          subst (λ b. 1 ≤ length (cond b [] (walk arrows z k s))) (sym h) (omega (arith, walk-length arrows z k s))
+          subst (λ b. 1 ≤ length (cond b [] (walkBy arrows z k s))) (sym h) (omega (arith, walk-by-length arrows z k s))
 
   -- bytes are written just where a run fits: 6 for each of its positions
   pub written-iff : {r : ℕ} {old new : List ℕ} → AtFront (runBytes run) r old new → (unfit room steps ≡ true) ↔ (r ≡ 0)
@@ -88,27 +86,30 @@ module _ {G : Chart} (acc : Accepted G) (f : Formula) {s : ℕ} (low : s < state
       turn none e = (λ _ shown w l. absurd (none-iff acc f low .0 e shown w l), λ _. refl)
       turn (some k) e =
           let short = found-shortest acc f low e in
-          let size = walk-length arrows z k s in (
+          let size = walk-by-length arrows z k s in (
             λ h shown w l. λ i.
                 let z : ⊥ = omega (arith, ltb-true room (6 * suc k) h, short .fewest shown w, size) in z,
             λ none.
                 by-cases (decLe (6 * suc k) room)
-                (λ l. absurd (none (walk arrows z k s) (short .reason) (short .short) (omega (arith, size))))
+                (λ l. absurd (none (walkBy arrows z k s) (short .reason) (short .short) (omega (arith, size))))
                 (λ l. lt-ltb room (6 * suc k) (omega arith)),
           )
 
-  -- states are of the chart, durations no longer than slots and what is needed
-  pub run-told :
-      states G ≤ 256 → z .need ≤ 65537 → ((a : Arrow) → List·Memᴰ a arrows → SlotUpTo 65537 a) → Writable run
-  run-told few need slots = turn steps
+  -- states are of the chart
+  run-states : (i : ℕ) → stateAt run i < states G
+  run-states i = turn steps
     where
-      walked : (k : ℕ) → Writable (walk arrows z k s)
-      walked k =
-          record {
-            states = λ i. omega (arith, walk-below (accepted-drawn acc) z k low i);
-            durations = λ i. omega (arith, walk-brief G f slots need k s i);
-          }
+      none-shown : stateAt [] i < states G
+      none-shown = omega (arith, low)
 
-      turn : (o : Option ℕ) → Writable (fitting arrows z s room o)
-      turn none = told-none
-      turn (some k) = cond-elim Writable (ltb room (6 * suc k)) (λ e. told-none) (λ e. walked k)
+      turn : (o : Option ℕ) → stateAt (fitting arrows z s room o) i < states G
+      turn none = none-shown
+      turn (some k) =
+          cond-elim (λ shown. stateAt shown i < states G) (ltb room (6 * suc k)) (λ e. none-shown)
+          (λ e. walk-below (accepted-drawn acc) z k low i)
+
+  pub run-told :
+      states G ≤ 256 → ((i : ℕ) → durationAt (runIn (G .arrows) (searchOf G f) s room) i ≤ 65537) →
+      Writable (runIn (G .arrows) (searchOf G f) s room)
+  run-told few brief =
+      record { states = λ i. omega (arith, run-states i); durations = λ i. omega (arith, brief i) }

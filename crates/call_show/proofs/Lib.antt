@@ -1,4 +1,4 @@
-pub mod Quest
+pub mod Search
 pub mod Fitting
 pub mod Accepted
 pub mod Answers

@@ -16,8 +16,8 @@ use Rattle.chart.specs.Bytes.{stateCount, chartOf}
 use Rattle.rule.specs.Bytes.{nodeCount}
 use Rattle.rule.specs.Formula.{formulaAt}
 use Rattle.shown.specs.Shown.{Position, durationAt, stateAt, Reason, Showable, Shortest}
-use Rattle.shown.specs.Steps.{fewestSteps}
-use Rattle.shown.specs.Showable.{showable, questOf}
+use Rattle.shown.specs.Showable.{showable}
+use Rattle.shown.specs.Showable.{stepsOf as fewestOf}
 use Rattle.run_walk.specs.RunBytes.{runBytes}
 use Rattle.call_check.specs.Check.{checkTable, checkRefusal}
 use Rattle.judge.specs.Judge.{marksAfter, scratchAfter, Meaning}
@@ -32,7 +32,7 @@ module _ (chart rule : List ℕ) (node state : ℕ) where
 
   -- the fewest steps, at most 256, of a true run
   abbrev pub stepsOf : Option ℕ
-  stepsOf = fewestSteps (chartOf chart .arrows) (questOf (chartOf chart) (formulaAt rule node)) state
+  stepsOf = fewestOf (chartOf chart) (formulaAt rule node) state
 
   -- "a true run", a true reason for the mark
   abbrev pub TrueRun : List Position → Type 0
@@ -54,10 +54,10 @@ showRefusal chart rule marks scratch node state output =
 
 -- "zero after acceptance and 62; after 60 and 61 as check leaves it", and as check leaves it after its own refusals; the
 -- numbers are check's and show's
-unfoldable pub tableAfter : List ℕ → ℕ → ℕ → List ℕ → List ℕ
-tableAfter chart checked number scratch =
+unfoldable pub tableAfter : List ℕ → List ℕ → ℕ → ℕ → List ℕ → List ℕ
+tableAfter chart rule checked number scratch =
     cond (eqb number 0 || eqb number 62) (tableCleared (stateCount chart) scratch)
-    (scratchAfter false chart checked scratch)
+    (scratchAfter false chart rule checked scratch)
 
 -- a run that the bytes can tell: "the state (2 bytes) and duration (4)"
 pub record Writable (shown : List Position) : Type 0 where
@@ -88,7 +88,7 @@ pub record Showed
   pub written : newMarks ≡ marksAfter chart rule (checkRefusal chart rule marks scratch .number) marks
   pub meaning : checkRefusal chart rule marks scratch .number ≡ 0 → Meaning chart rule newMarks
   pub cleared :
-      newScratch ≡ tableAfter chart (checkRefusal chart rule marks scratch .number) (r .outcome .number) scratch
+      newScratch ≡ tableAfter chart rule (checkRefusal chart rule marks scratch .number) (r .outcome .number) scratch
   pub rows : checkRefusal chart rule marks scratch .number ≡ 0 → RowsMean chart rule node state output
   -- what is shown: nothing on a refusal
   pub shown : List Position

@@ -19,9 +19,8 @@ use Rattle.rule.specs.Bytes.{nodeCount}
 use Rattle.rule.specs.Formula.{formulaAt}
 use Rattle.loops.specs.Refusal.{loopRow}
 use Rattle.nodes.specs.Right.{Right}
-use Rattle.room.specs.Room.{scratchSize}
 use Rattle.call_check.specs.Check.{checkRefusal}
-use Rattle.judge.specs.Judge.{marksOf, Promised}
+use Rattle.judge.specs.Judge.{sizeOf, marksOf, Promised}
 use Rattle.judge.specs.Judged.{inputTable, Judged}
 use Rattle.judge.proofs.Chain.{input-passes}
 use Rattle.judge.proofs.Marks.{front-size, past-front, marks-length}
@@ -110,7 +109,7 @@ some-marks chart rule accepted unrefused =
     marks = replicate (nodeCount rule * stateCount chart) 0
 
     scratch : List ℕ
-    scratch = replicate (scratchSize (stateCount chart)) 0
+    scratch = replicate (sizeOf false chart rule) 0
 
     success-answered : checkRefusal chart rule marks scratch ≡ success
     success-answered =
@@ -120,5 +119,5 @@ some-marks chart rule accepted unrefused =
           rule-accepted = unrefused;
           bounds = λ e. absurd (false≢true e);
           table = le-of-eq (sym (length-replicate {A = ℕ} (nodeCount rule * stateCount chart) 0));
-          room = le-of-eq (sym (length-replicate {A = ℕ} (scratchSize (stateCount chart)) 0));
+          room = le-of-eq (sym (length-replicate {A = ℕ} (sizeOf false chart rule) 0));
         }

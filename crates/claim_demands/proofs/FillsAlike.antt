@@ -16,8 +16,8 @@ use Rattle.chart.specs.Refusals.{chartTable}
 use Rattle.rule.specs.Bytes.{nodeCount}
 use Rattle.rule.specs.Refusals.{ruleTable, boundRow}
 use Rattle.loops.specs.Refusal.{loopRow}
-use Rattle.room.specs.Room.{sizeFor, roomTable}
-use Rattle.judge.specs.Judge.{ownRows, judgeTable, judgeRefusal, marksAfter}
+use Rattle.room.specs.Room.{roomTable}
+use Rattle.judge.specs.Judge.{sizeOf, ownRows, judgeTable, judgeRefusal, marksAfter}
 use Rattle.judge.proofs.Chain.{own-iff}
 use Rattle.rule.specs.Refusals.{ShortBounds}
 use Rattle.claim_demands.specs.FillsAlike.{FillsAlike}
@@ -52,12 +52,12 @@ module _ (chart rule marks : List ℕ) where
 
   -- either answers by the rows that both have
   shared :
-      (counting : Bool) (scratch : List ℕ) → ShortBounds rule → sizeFor counting (stateCount chart) ≤ length scratch →
+      (counting : Bool) (scratch : List ℕ) → ShortBounds rule → sizeOf counting chart rule ≤ length scratch →
       judgeRefusal counting chart rule marks scratch ≡ first (formats ++ row-17 ∷ loopRow chart ∷ [])
   unfolding judgeTable
   shared counting scratch short room =
       let own = ownRows counting rule in
-      let rooms = roomTable (stateCount chart) (nodeCount rule) (sizeFor counting (stateCount chart)) marks scratch in
+      let rooms = roomTable (stateCount chart) (nodeCount rule) (sizeOf counting chart rule) marks scratch in
       let last = loopRow chart ∷ [] in
       ap first (append-assoc (formats ++ own) rooms last ∙ append-assoc formats own (rooms ++ last)) ∙
       front-same formats _ _

@@ -15,8 +15,7 @@ use Rattle.chart.specs.Bytes.{stateCount}
 use Rattle.rule.specs.Bytes.{nodeCount}
 use Rattle.rule.specs.Refusals.{ruleTable, ruleRefusal}
 use Rattle.loops.specs.Refusal.{loopRow}
-use Rattle.room.specs.Room.{sizeFor}
-use Rattle.judge.specs.Judge.{judgeTable, judgeRefusal, marksOf, Promised}
+use Rattle.judge.specs.Judge.{sizeOf, judgeTable, judgeRefusal, marksOf, Promised}
 use Rattle.judge.specs.Judged.{inputTable}
 use Rattle.judge.proofs.Chain.{judge-numbered, own-iff, input-iff, judge-iff, room-iff, chart-iff}
 use Rattle.judge.proofs.Marks.{front-size, past-front, marks-length}
@@ -100,7 +99,7 @@ judge-unbroken counting chart rule marks scratch r newMarks newScratch c =
     kn = nodeCount rule * stateCount chart
 
     size : ℕ
-    size = sizeFor counting (stateCount chart)
+    size = sizeOf counting chart rule
 
     zeros : List ℕ
     zeros = replicate size 0

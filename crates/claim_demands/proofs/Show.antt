@@ -25,9 +25,9 @@ use Rattle.rule.specs.Bytes.{nodeCount}
 use Rattle.rule.specs.Formula.{formulaAt}
 use Rattle.loops.specs.Accepted.{AcceptedChart}
 use Rattle.shown.specs.Shown.{Showable}
-use Rattle.shown.specs.Showable.{showable, questOf}
-use Rattle.shown.specs.Steps.{Quest, walk}
-use Rattle.shown.proofs.Table.{walk-length}
+use Rattle.shown.specs.Search.{Search, walkBy}
+use Rattle.shown.specs.Showable.{showable, searchOf}
+use Rattle.shown.proofs.Walks.{walk-by-length}
 use Rattle.shown.proofs.Meaning.{showable-iff, found-shortest, none-iff}
 use Rattle.run_walk.specs.RunBytes.{runBytes}
 use Rattle.run_walk.proofs.RunBytes.{run-bytes-length}
@@ -45,8 +45,8 @@ use Rattle.claim_demands.proofs.Answers.{answers}
 use Rattle.claim_demands.proofs.Judge.{judge-accepts, zero-front, judge-unbroken}
 
 module _ (chart rule marks scratch : List ℕ) (node state : ℕ) (output : List ℕ) where
-  abbrev quest : Quest
-  quest = questOf (chartOf chart) (formulaAt rule node)
+  abbrev search : Search
+  search = searchOf (chartOf chart) (formulaAt rule node)
 
   -- ── Row 60 ──
 
@@ -84,10 +84,10 @@ module _ (chart rule marks scratch : List ℕ) (node state : ℕ) (output : List
           let short =
           found-shortest (accepted .meaning) (formulaAt rule node) (omega (arith, l, states-of chart)) e in
           record {
-            shown = walk (chartOf chart .arrows) quest k state;
+            shown = walkBy (chartOf chart .arrows) search k state;
             true-run = short .reason;
             short = short .short;
-            fits = omega (arith, ltb-false (length output) (6 * suc k) h, walk-length (chartOf chart .arrows) quest k state);
+            fits = omega (arith, ltb-false (length output) (6 * suc k) h, walk-by-length (chartOf chart .arrows) search k state);
           }
 
   fit-passed :
@@ -105,7 +105,7 @@ module _ (chart rule marks scratch : List ℕ) (node state : ℕ) (output : List
       turn (some k) e =
           let short = found-shortest (a .checked .chart-accepted .meaning) (formulaAt rule node) low e in
           le-ltb (length output) (6 * suc k)
-          (omega (arith, a .run .fits, short .fewest (a .run .shown) (a .run .true-run), walk-length (chartOf chart .arrows) quest k state))
+          (omega (arith, a .run .fits, short .fewest (a .run .shown) (a .run .true-run), walk-by-length (chartOf chart .arrows) search k state))
 
   -- ── The table ──
 
@@ -192,21 +192,21 @@ show-told chart rule marks scratch node state output r newMarks newScratch newOu
     -- what check by itself would have left
     unbroken :
         Unbroken false chart rule marks scratch (checkRefusal chart rule marks scratch) newMarks
-        (scratchAfter false chart checked scratch)
+        (scratchAfter false chart rule checked scratch)
     unbroken =
         judge-unbroken false chart rule marks scratch (checkRefusal chart rule marks scratch) newMarks
-        (scratchAfter false chart checked scratch)
+        (scratchAfter false chart rule checked scratch)
         (record { answer = refl; written = s .written; cleared = refl; meaning = s .meaning })
 
     zeroed :
         (r .outcome .number ≡ 0) ⊎ (r .outcome .number ≡ 62) →
-        tableAfter chart checked (r .outcome .number) scratch ≡ zeros ++ drop size scratch
+        tableAfter chart rule checked (r .outcome .number) scratch ≡ zeros ++ drop size scratch
     zeroed (inl z) = rw z
     zeroed (inr z) = rw z
 
     unzeroed :
         ¬ (r .outcome .number ≡ 0) → ¬ (r .outcome .number ≡ 62) →
-        tableAfter chart checked (r .outcome .number) scratch ≡ scratchAfter false chart checked scratch
+        tableAfter chart rule checked (r .outcome .number) scratch ≡ scratchAfter false chart rule checked scratch
     unzeroed h k = simp (ne-eqb (r .outcome .number) 0 h, ne-eqb (r .outcome .number) 62 k)
 
     nothing : s .shown ≡ [] → (r .written ≡ 0) × (newOutput ≡ output)

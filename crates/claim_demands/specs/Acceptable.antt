@@ -1,4 +1,5 @@
--- What check accepts, and count. The quoted conditions are of 01, "Refused with number and place", and of 02, paper 2.
+-- What check accepts, and count. The quoted conditions are of 01, "Refused with number and place", and of 02, papers 2
+-- and 7.
 use mathlib.Core.Path.{_≡_}
 use mathlib.Core.Bool.{Bool, true}
 use mathlib.Core.List.{List}
@@ -9,10 +10,10 @@ use Rattle.chart.specs.Bytes.{stateCount}
 use Rattle.rule.specs.Bytes.{nodeCount}
 use Rattle.rule.specs.Refusals.{ruleRefusal, ShortBounds}
 use Rattle.loops.specs.Accepted.{AcceptedChart}
-use Rattle.room.specs.Room.{sizeFor}
+use Rattle.judge.specs.Judge.{sizeOf}
 
--- an accepted chart, an accepted rule, whose bounds go to 255 where minutes are counted, and room for the marks and for
--- 4n numbers, or 256 × n
+-- an accepted chart, an accepted rule, whose bounds go to 255 where every until is counted, and room for the marks and
+-- for 4n numbers, or 256 × n
 pub record Acceptable (counting : Bool) (chart rule marks scratch : List ℕ) : Type 0 where
   pub chart-accepted : AcceptedChart chart
   pub rule-accepted : ruleRefusal rule ≡ success
@@ -20,5 +21,5 @@ pub record Acceptable (counting : Bool) (chart rule marks scratch : List ℕ) : 
   pub bounds : counting ≡ true → ShortBounds rule
   -- not "marks table under k × n bytes"
   pub table : nodeCount rule * stateCount chart ≤ length marks
-  -- not "scratch under 4n numbers"; where minutes are counted "18 by that size", 256 × n
-  pub room : sizeFor counting (stateCount chart) ≤ length scratch
+  -- not "scratch under 4n numbers"; where every until is counted, or with kind 3, 256 × n: "18 follows the size"
+  pub room : sizeOf counting chart rule ≤ length scratch

@@ -1,12 +1,12 @@
 -- Check and count fill the marks table alike: 02, paper 2, "for every such rule it is proved to fill the marks table as
 -- the first engine does". It is said of what the two calls promise.
 use mathlib.Core.Path.{_≡_}
+use mathlib.Core.Bool.{true, false}
 use mathlib.Core.List.{List}
 use Prim.Native.Nat.{ℕ, _≤_}
 use lib.ListN.{length}
 use Rattle.outcome.specs.declared.Outcome.{Outcome}
-use Rattle.chart.specs.Bytes.{stateCount}
-use Rattle.room.specs.Room.{scratchSize, minuteSize}
+use Rattle.judge.specs.Judge.{sizeOf}
 use Rattle.call_check.specs.Check.{Checked}
 use Rattle.call_count.specs.Count.{Counted}
 use Rattle.rule.specs.Refusals.{ShortBounds}
@@ -16,8 +16,7 @@ pub record Alike (chart rule scratch scratch′ : List ℕ) (r r′ : Outcome) (
   -- for "such rule", as "Bounds go to 255", and where each has its room: the same answer, accepted or refused, and the
   -- same marks
   pub same :
-      ShortBounds rule → scratchSize (stateCount chart) ≤ length scratch →
-      minuteSize (stateCount chart) ≤ length scratch′ →
+      ShortBounds rule → sizeOf false chart rule ≤ length scratch → sizeOf true chart rule ≤ length scratch′ →
       (r ≡ r′) × (newMarks ≡ newMarks′)
   -- wherever both accept, the same marks
   pub accepted : r .number ≡ 0 → r′ .number ≡ 0 → newMarks ≡ newMarks′

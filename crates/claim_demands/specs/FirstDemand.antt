@@ -34,8 +34,7 @@ use Rattle.call_reader.specs.Reading.{handed, stepOf, moved}
 use Rattle.loops.specs.Accepted.{AcceptedChart}
 use Rattle.loops.specs.Refusal.{acceptedTable, acceptedRefusal}
 use Rattle.call_map.specs.Refusals.{mapCheckTable, mapRefusal}
-use Rattle.room.specs.Room.{sizeFor}
-use Rattle.judge.specs.Judge.{judgeTable}
+use Rattle.judge.specs.Judge.{sizeOf, judgeTable}
 use Rattle.call_check.specs.Check.{Checked}
 use Rattle.call_count.specs.Count.{Counted}
 use Rattle.call_show.specs.Show.{Showed}
@@ -60,12 +59,12 @@ pub record Unbroken (counting : Bool) (chart rule marks scratch : List ℕ) (r :
   pub later-kept : (j : ℕ) → nodeCount rule * stateCount chart ≤ j → getD newMarks j 0 ≡ getD marks j 0
   -- "The marks table is as lent after every refusal."
   pub marks-kept : ¬ (r .number ≡ 0) → newMarks ≡ marks
-  -- "After acceptance, and after refusal 19, its first 4n numbers are 0"; for count "256 × n numbers, zero where 4n
-  -- were"
+  -- "After acceptance, and after refusal 19, its first 4n numbers are 0"; for count, and with kind 3, "256 × n .. numbers,
+  -- zero where 4n were"
   pub cleared :
-      (r .number ≡ 0) ⊎ (r .number ≡ 19) → (i : ℕ) → i < sizeFor counting (stateCount chart) → getD newScratch i 0 ≡ 0
+      (r .number ≡ 0) ⊎ (r .number ≡ 19) → (i : ℕ) → i < sizeOf counting chart rule → getD newScratch i 0 ≡ 0
   -- "beyond those .. it is as lent"
-  pub beyond : (i : ℕ) → sizeFor counting (stateCount chart) ≤ i → getD newScratch i 0 ≡ getD scratch i 0
+  pub beyond : (i : ℕ) → sizeOf counting chart rule ≤ i → getD newScratch i 0 ≡ getD scratch i 0
   -- "and after any other refusal, it is as lent"
   pub scratch-kept : ¬ (r .number ≡ 0) → ¬ (r .number ≡ 19) → newScratch ≡ scratch
 

@@ -68,7 +68,7 @@ pub record ShowTold
   -- "after 60 and 61 as check leaves it", and after check's own refusals
   pub as-checked :
       ¬ (r .outcome .number ≡ 0) → ¬ (r .outcome .number ≡ 62) →
-      newScratch ≡ scratchAfter false chart (checkRefusal chart rule marks scratch .number) scratch
+      newScratch ≡ scratchAfter false chart rule (checkRefusal chart rule marks scratch .number) scratch
   -- "also answers how many bytes it wrote to each, 0 on a refusal"; "a refusal changes nothing in a lent buffer"
   pub refused : ¬ (r .outcome .number ≡ 0) → (r .written ≡ 0) × (newOutput ≡ output)
   -- "bytes past a result are kept"

@@ -26,12 +26,12 @@ use Rattle.chart.specs.Bytes.{arrowWords, chartOf, stateCount}
 use Rattle.chart.specs.Refusals.{leftBy, chartTable}
 use Rattle.rule.specs.Bytes.{nodeWords, nodeCount}
 use Rattle.rule.specs.Form.{formOf}
-use Rattle.rule.specs.Refusals.{wrongKind, wrongA, malformed, notLower, usesIn, uses, ruleTable, ruleRefusal}
+use Rattle.rule.specs.Refusals.{wrongBound, wrongKind, wrongA, malformed, notLower, usesIn, uses, ruleTable, ruleRefusal}
 use Rattle.rule.specs.Formula.{formulaBy, formulaOf}
 use Rattle.loops.specs.Refusal.{loopRow, acceptedTable, acceptedRefusal}
 use Rattle.loops.specs.Accepted.{AcceptedChart}
 use Rattle.loops.proofs.Accepted.{accepted-numbered, unmet-iff}
-use Rattle.room.specs.Room.{scratchSize}
+use Rattle.judge.specs.Judge.{sizeOf}
 use Rattle.call_check.specs.Check.{checkRefusal}
 use Rattle.claim_demands.proofs.Judge.{judge-accepts}
 use Rattle.claim_items.specs.Items.{Item, items}
@@ -50,7 +50,7 @@ passes it =
 all-pass : every passes items ≡ true
 unfolding
     passes items every tabulate chartOf arrowWords acceptedTable chartTable loopRow leads leftBy lowest first
-    formOf nodeWords wrongKind wrongA malformed notLower usesIn uses sum ruleTable formulaBy
+    formOf nodeWords wrongBound wrongKind wrongA malformed notLower usesIn uses sum ruleTable formulaBy
     round rounds lower raise least greatest someRow waits plainRow sureRow allRow answers
 all-pass = refl
 
@@ -98,7 +98,7 @@ items-right it m = right it (every-true passes items all-pass m)
 pub items-accepted :
     (it : Item) → List·Memᴰ it items → (marks scratch : List ℕ) →
     nodeCount (it .rule) * stateCount (it .chart) ≤ length marks →
-    scratchSize (stateCount (it .chart)) ≤ length scratch →
+    sizeOf false (it .chart) (it .rule) ≤ length scratch →
     checkRefusal (it .chart) (it .rule) marks scratch ≡ success
 items-accepted it m marks scratch table room =
     let r = items-right it m in

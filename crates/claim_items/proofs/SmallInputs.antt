@@ -11,7 +11,8 @@ use Rattle.chart.specs.Bytes.{arrowWords, chartOf}
 use Rattle.chart.specs.Refusals.{leftBy, chartTable}
 use Rattle.rule.specs.Bytes.{nodeWords}
 use Rattle.rule.specs.Form.{formOf}
-use Rattle.rule.specs.Refusals.{wrongKind, wrongA, malformed, notLower, usesIn, uses, ruleTable, ruleRefusal, boundRow}
+use Rattle.rule.specs.Refusals.{wrongBound, wrongKind, wrongA, malformed, notLower}
+use Rattle.rule.specs.Refusals.{usesIn, uses, ruleTable, ruleRefusal, exactIn, boundRow}
 use Rattle.loops.specs.Refusal.{loopRow, acceptedTable, acceptedRefusal}
 use Rattle.cover.specs.Covered.{covered}
 use Rattle.map.specs.Refusals.{noMap}
@@ -27,7 +28,7 @@ unfolding every charts acceptedTable chartTable loopRow arrowWords chartOf tabul
 charts-refused = refl
 
 pub rules-refused : every (asListed ruleRefusal) rules ≡ true
-unfolding every rules ruleTable nodeWords formOf wrongKind wrongA malformed notLower usesIn uses sum lowest first entryOf
+unfolding every rules ruleTable nodeWords formOf wrongBound wrongKind wrongA malformed notLower usesIn uses sum lowest first entryOf
 rules-refused = refl
 
 pub maps-refused : every mapAsListed maps ≡ true
@@ -39,11 +40,11 @@ maps-refused = refl
 pub checks-refused : every (judgeAsListed checkRefusal) checks ≡ true
 unfolding
     every checks judgeTable chartTable loopRow arrowWords chartOf tabulate leads leftBy lowest first entryOf ruleTable nodeWords
-    formOf wrongKind wrongA malformed notLower usesIn uses sum
+    formOf wrongBound wrongKind wrongA malformed notLower usesIn uses sum exactIn
 checks-refused = refl
 
 pub counts-refused : every (judgeAsListed countRefusal) counts ≡ true
 unfolding
     every counts judgeTable chartTable loopRow arrowWords chartOf tabulate leads leftBy lowest first entryOf ruleTable nodeWords
-    formOf wrongKind wrongA malformed notLower usesIn uses sum boundRow
+    formOf wrongBound wrongKind wrongA malformed notLower usesIn uses sum boundRow
 counts-refused = refl

@@ -16,7 +16,7 @@ undo = chart 3 4 (wordBytes 1 ++ wordBytes 2 ++ wordBytes 4) (arrow 0 1 5 10 ++ 
 abbrev pub one : List ℕ
 one = chart 1 1 (wordBytes 0) (arrow 0 0 1 1)
 
--- "5 E(a until b); 6 A(a until b)"; "Kind is 1 (at most c) or 2 (at least c)"
+-- "5 E(a until b); 6 A(a until b)"; "Kind is 1 (at most c) or 2 (at least c)"; "Bound kind 3 is "exactly c"" (02, paper 7)
 abbrev pub E : ℕ
 E = 5
 
@@ -28,6 +28,9 @@ atMost = 1
 
 abbrev pub atLeast : ℕ
 atLeast = 2
+
+abbrev pub exactly : ℕ
+exactly = 3
 
 -- E or A (true until Lj, bound)
 abbrev pub trueUntil : ℕ → ℕ → ℕ → ℕ → List ℕ

@@ -1,5 +1,5 @@
 -- The column "Small input" of 01's table, and inputs for what 01 says beside it, as "several joined don't count" and "'No
--- end' contains every most"; and inputs for what 02, papers 2, 4 and 6, say of refusals. Each is listed with the number,
+-- end' contains every most"; and inputs for what 02, papers 2, 4, 6 and 7, say of refusals. Each is listed with the number,
 -- the place and the entry that are answered, all 0 if it is accepted.
 use mathlib.Core.Bool.{Bool, _&&_}
 use mathlib.Core.List.{List, [], _∷_, _++_}
@@ -11,7 +11,7 @@ use Rattle.outcome.specs.Refusal.{outcome}
 use Rattle.call_map.specs.Refusals.{mapRefusal}
 use Rattle.append.specs.BigEndian.{wordBytes}
 use Rattle.claim_items.specs.Write.{arrow, chart, node, rule, map}
-use Rattle.claim_items.specs.Items.{short, trueUntil, E, A, atMost, atLeast}
+use Rattle.claim_items.specs.Items.{short, trueUntil, E, A, atMost, atLeast, exactly}
 
 -- a number, a place and an entry that are answered, for bytes
 pub record Refused : Type 0 where
@@ -82,6 +82,13 @@ rules =
     refused 13 0 3 (rule 65 (node 0 0 0 0 0)) ∷
     -- label 16
     refused 14 1 3 (trueUntil A 16 atMost 13) ∷
+    -- "14 takes kind 3 with c up to 255 only": 255 is not refused, and of at most 256 is not; no node has kind 4
+    refused 0 0 0 (trueUntil A 2 exactly 255) ∷
+    refused 14 2 3 (trueUntil A 2 exactly 256) ∷
+    refused 0 0 0 (trueUntil A 2 atMost 256) ∷
+    refused 14 2 3 (trueUntil A 2 4 13) ∷
+    -- node 0 = true with kind 3
+    refused 14 0 3 (rule 1 (node 0 exactly 0 0 0)) ∷
     -- node 0 = not 0
     refused 15 0 3 (rule 1 (node 2 0 0 0 0)) ∷
     -- node 1 = 0 and 0
@@ -146,6 +153,11 @@ abbrev pub refusedJudge : ℕ → ℕ → ℕ → List ℕ → List ℕ → ℕ 
 refusedJudge n p e g r marks scratch =
     record { answer = outcome n p e; chart = g; rule = r; marks = marks; scratch = scratch }
 
+-- A(true until E(true until L2, the first kind, b), the second kind, c)
+abbrev pub twoBounds : ℕ → ℕ → ℕ → ℕ → List ℕ
+twoBounds kind b kind′ c =
+    rule 5 (node 0 0 0 0 0 ++ node 0 0 0 0 0 ++ node 1 0 2 0 0 ++ node E kind 1 2 b ++ node A kind′ 0 3 c)
+
 unfoldable pub checks : List RefusedJudge
 checks =
     -- 01's listing, with just enough room, is not refused
@@ -160,12 +172,14 @@ checks =
     refusedJudge 17 0 5 stranded (trueUntil A 2 atMost 13) 0 0 ∷
     refusedJudge 18 0 5 stranded (trueUntil A 2 atMost 13) 9 0 ∷
     refusedJudge 19 1 1 stranded (trueUntil A 2 atMost 13) 9 12 ∷
+    -- "With kind 3 check wants 256 × n scratch numbers": n = 3, 767 numbers; 768 are enough
+    refusedJudge 18 0 5 short (trueUntil A 2 exactly 0) 9 767 ∷
+    refusedJudge 0 0 0 short (trueUntil A 2 exactly 0) 9 768 ∷
+    -- and with kind 3 in an inner node alone; without it 12 are enough
+    refusedJudge 18 0 5 short (twoBounds exactly 0 atMost 13) 15 767 ∷
+    refusedJudge 0 0 0 short (twoBounds exactly 0 atMost 13) 15 768 ∷
+    refusedJudge 0 0 0 short (twoBounds atLeast 0 atMost 13) 15 12 ∷
     []
-
--- A(true until E(true until L2, at least b), at most c)
-abbrev pub twoBounds : ℕ → ℕ → List ℕ
-twoBounds b c =
-    rule 5 (node 0 0 0 0 0 ++ node 0 0 0 0 0 ++ node 1 0 2 0 0 ++ node E atLeast 1 2 b ++ node A atMost 0 3 c)
 
 unfoldable pub counts : List RefusedJudge
 counts =
@@ -175,9 +189,9 @@ counts =
     refusedJudge 17 0 5 short (trueUntil A 2 atMost 255) 0 0 ∷
     refusedJudge 0 0 0 short (trueUntil A 2 atMost 255) 9 768 ∷
     -- both bounds above 255; the last node's alone; the inner node's alone
-    refusedJudge 63 3 3 short (twoBounds 256 65535) 15 768 ∷
-    refusedJudge 63 4 3 short (twoBounds 255 256) 15 768 ∷
-    refusedJudge 63 3 3 short (twoBounds 65535 255) 15 768 ∷
+    refusedJudge 63 3 3 short (twoBounds atLeast 256 atMost 65535) 15 768 ∷
+    refusedJudge 63 4 3 short (twoBounds atLeast 255 atMost 256) 15 768 ∷
+    refusedJudge 63 3 3 short (twoBounds atLeast 65535 atMost 255) 15 768 ∷
     -- node 2 = A(0 until 0, at most 256): 16 before 63
     refusedJudge 16 0 3 short (rule 3 (node 0 0 0 0 0 ++ node 0 0 0 0 0 ++ node A atMost 0 0 256)) 9 768 ∷
     -- n = 3, 767 numbers, without an until; 768 are enough

@@ -41,7 +41,10 @@ small-texts = (
                                   judged _,
                                   (
                                     judged _,
-                                    (judged _, tt),
+                                    (
+                                      judged _,
+                                      (judged _, tt),
+                                    ),
                                   ),
                                 ),
                               ),

@@ -1,7 +1,7 @@
 -- Texts, and what they are: of each limit one that is of the grammar and one that is not, with its place.
 use mathlib.Core.List.{List, [], _∷_}
 use Prim.Native.Nat.{ℕ}
-use Rattle.tctl.specs.Formula.{atMost, atLeast, always, label, not, and, someUntil, allUntil}
+use Rattle.tctl.specs.Formula.{atMost, atLeast, exactly, always, label, not, and, someUntil, allUntil}
 use Rattle.rule_grammar.specs.Grammar.{Verdict, fault, formula, Judged}
 
 pub record Small : Type 0 where
@@ -52,8 +52,14 @@ smallTexts =
     small (40 ∷ 116 ∷ 114 ∷ 117 ∷ 101 ∷ 32 ∷ 38 ∷ 33 ∷ 76 ∷ 49 ∷ 41 ∷ []) (fault 7) ∷
     -- `( true & !L1)`
     small (40 ∷ 32 ∷ 116 ∷ 114 ∷ 117 ∷ 101 ∷ 32 ∷ 38 ∷ 32 ∷ 33 ∷ 76 ∷ 49 ∷ 41 ∷ []) (fault 1) ∷
-    -- `E(true U==3 L1)`
-    small (69 ∷ 40 ∷ 116 ∷ 114 ∷ 117 ∷ 101 ∷ 32 ∷ 85 ∷ 61 ∷ 61 ∷ 51 ∷ 32 ∷ 76 ∷ 49 ∷ 41 ∷ []) (fault 8) ∷
+    -- `A(true U==255 L1)`
+    small
+    (65 ∷ 40 ∷ 116 ∷ 114 ∷ 117 ∷ 101 ∷ 32 ∷ 85 ∷ 61 ∷ 61 ∷ 50 ∷ 53 ∷ 53 ∷ 32 ∷ 76 ∷ 49 ∷ 41 ∷ [])
+    (formula (allUntil (exactly 255) always (label 1))) ∷
+    -- `A(true U==256 L1)`
+    small
+    (65 ∷ 40 ∷ 116 ∷ 114 ∷ 117 ∷ 101 ∷ 32 ∷ 85 ∷ 61 ∷ 61 ∷ 50 ∷ 53 ∷ 54 ∷ 32 ∷ 76 ∷ 49 ∷ 41 ∷ [])
+    (fault 12) ∷
     -- `true`
     small (116 ∷ 114 ∷ 117 ∷ 101 ∷ []) (formula always) ∷
     -- `true `

@@ -18,9 +18,9 @@ use Rattle.desk_call.specs.declared.Reported.{Reported}
 abbrev pub lentMarks : List ℕ
 lentMarks = replicate 16384 0
 
--- the scratch that is lent: 4 × 256 numbers
+-- the scratch that is lent: 256 × 256 numbers, "the desk program lends 65,536" (02, paper 7)
 abbrev pub lentScratch : List ℕ
-lentScratch = replicate 1024 0
+lentScratch = replicate 65536 0
 
 -- the answer of the check
 abbrev pub answerOf : List ℕ → List ℕ → Outcome

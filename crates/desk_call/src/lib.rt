@@ -14,7 +14,7 @@ pub const RULE: usize = 520;
 // Marks and scratch for 256 states and 64 nodes.
 const MARKS: usize = 16384;
 
-const SCRATCH: usize = 1024;
+const SCRATCH: usize = 65536;
 
 // The bytes of the longest text: 64 lines of 260 after a first line of 20.
 const TEXT: usize = 16660;

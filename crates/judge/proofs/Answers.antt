@@ -19,12 +19,13 @@ use Rattle.chart.specs.Bytes.{stateCount, chartOf}
 use Rattle.chart.proofs.WellFormed.{well-formed}
 use Rattle.chart.proofs.Chart.{states-of}
 use Rattle.rule.specs.Bytes.{nodeCount}
+use Rattle.rule.specs.Refusals.{minutely}
 use Rattle.rule.specs.Formula.{formulaAt}
 use Rattle.loops.specs.Refusal.{loopRow, acceptedTable}
 use Rattle.loops.proofs.Chain as loops
 use Rattle.loops.proofs.Accepted.{accepted-only}
 use Rattle.room.specs.Room.{sizeFor}
-use Rattle.judge.specs.Judge.{marksOf, marksAfter, scratchAfter, Tells, Meaning, Promised}
+use Rattle.judge.specs.Judge.{sizeOf, marksOf, marksAfter, scratchAfter, Tells, Meaning, Promised}
 use Rattle.judge.specs.Judged.{inputTable, Judged}
 use Rattle.judge.proofs.Chain.{input-refuses, input-other, loop-next, input-passes, loop-number}
 use Rattle.judge.proofs.Marks.{marks-written, bit-tells}
@@ -49,7 +50,7 @@ module _ (counting : Bool) (chart rule marks scratch : List ℕ) {r : Outcome}
 
     -- scratch with its first numbers cleared
     abbrev zeroed : List ℕ
-    zeroed = replicate (sizeFor counting n) 0 ++ drop (sizeFor counting n) scratch
+    zeroed = replicate (sizeOf counting chart rule) 0 ++ drop (sizeOf counting chart rule) scratch
 
     -- the chart has a state, and if row 19 is not met either it is accepted
     some-states : 0 < n
@@ -74,7 +75,7 @@ module _ (counting : Bool) (chart rule marks scratch : List ℕ) {r : Outcome}
         turn false f = x .refused (eqb-false _ _ f)
 
     -- row 19 answers 0 or 19
-    scratch-are : {zeros : List ℕ} → zeros ≡ zeroed → zeros ≡ scratchAfter counting chart (o .number) scratch
+    scratch-are : {zeros : List ℕ} → zeros ≡ zeroed → zeros ≡ scratchAfter counting chart rule (o .number) scratch
     unfolding scratchAfter
     scratch-are {zeros} f = turn (loop-number chart)
       where
@@ -106,10 +107,10 @@ module _ (counting : Bool) (chart rule marks scratch : List ℕ) {r : Outcome}
 
   -- the same for counts that were read
   pub judged-answered :
-      r .number ≡ 0 → {n size : ℕ} → n ≡ stateCount chart → size ≡ sizeFor counting n →
+      r .number ≡ 0 → {n size : ℕ} → n ≡ stateCount chart → size ≡ sizeFor (minutely counting rule) n →
       {o : Outcome} {new zeros : List ℕ} → Judged chart n rule o marks new →
       zeros ≡ replicate size 0 ++ drop size scratch → Promised counting chart rule marks scratch o new zeros
   judged-answered z {n} {size} en es {o} {new} {zeros} x f =
-      let all : size ≡ sizeFor counting (stateCount chart) = es ∙ ap (sizeFor counting) en in
+      let all : size ≡ sizeOf counting chart rule = es ∙ ap (sizeFor (minutely counting rule)) en in
       all-answered z (subst (λ k. Judged chart k rule o marks new) en x)
       (subst (λ k. zeros ≡ replicate k 0 ++ drop k scratch) all f)

@@ -21,13 +21,13 @@ use Rattle.outcome.proofs.Bounded.{each, number-each}
 use Rattle.chart.specs.Bytes.{stateCount}
 use Rattle.chart.specs.Refusals.{chartTable, chartRefusal}
 use Rattle.rule.specs.Bytes.{nodeCount, nodeWords}
-use Rattle.rule.specs.Refusals.{ruleTable, ruleRefusal, longBound, ShortBounds, boundRow}
+use Rattle.rule.specs.Refusals.{ruleTable, ruleRefusal, minutely, longBound, ShortBounds, boundRow}
 use Rattle.rule.proofs.Accepted.{accepted}
 use Rattle.loops.specs.Accepted.{AcceptedChart}
 use Rattle.loops.specs.Refusal.{loopRow, acceptedTable}
 use Rattle.loops.proofs.Accepted.{unmet-iff}
 use Rattle.room.specs.Room.{sizeFor, roomTable}
-use Rattle.judge.specs.Judge.{ownRows, judgeTable, judgeRefusal}
+use Rattle.judge.specs.Judge.{sizeOf, ownRows, judgeTable, judgeRefusal}
 use Rattle.judge.specs.Judged.{inputTable}
 
 module _ (rule : List ℕ) {b : Outcome} (f : b ≡ ruleRefusal rule) (w : b .number ≡ 0) where
@@ -43,7 +43,7 @@ pub record Admitted (counting : Bool) (chart rule marks scratch : List ℕ) : Ty
   pub of-rule : ruleRefusal rule .number ≡ 0
   pub short : counting ≡ true → ShortBounds rule
   pub table : nodeCount rule * stateCount chart ≤ length marks
-  pub room : sizeFor counting (stateCount chart) ≤ length scratch
+  pub room : sizeOf counting chart rule ≤ length scratch
 
 -- row 63 is not met where no bound is above 255
 pub own-iff :
@@ -89,7 +89,7 @@ module _ (counting : Bool) (chart rule marks scratch : List ℕ) where
   own = ownRows counting rule
 
   abbrev rooms : List Row
-  rooms = roomTable (stateCount chart) (nodeCount rule) (sizeFor counting (stateCount chart)) marks scratch
+  rooms = roomTable (stateCount chart) (nodeCount rule) (sizeOf counting chart rule) marks scratch
 
   abbrev inputs : List Row
   inputs = inputTable counting chart rule marks scratch
@@ -119,10 +119,10 @@ module _ (counting : Bool) (chart rule marks scratch : List ℕ) where
         own-refuses h = part-refuses (formats ++ own) rooms all-three h
 
         pub room-next :
-            c .number ≡ 0 → {n k size : ℕ} → n ≡ stateCount chart → k ≡ nodeCount rule → size ≡ sizeFor counting n →
+            c .number ≡ 0 → {n k size : ℕ} → n ≡ stateCount chart → k ≡ nodeCount rule → size ≡ sizeFor (minutely counting rule) n →
             {r : Outcome} → r ≡ first (roomTable n k size marks scratch) → r ≡ first inputs
         room-next v {n} {k} {size} en ek es {r} i =
-            let asked = es ∙ ap (sizeFor counting) en in
+            let asked = es ∙ ap (sizeFor (minutely counting rule)) en in
             let rooms-are : r ≡ first (roomTable (stateCount chart) (nodeCount rule) size marks scratch) =
             subst (λ x. r ≡ first (roomTable x (nodeCount rule) size marks scratch)) en
             (subst (λ x. r ≡ first (roomTable n x size marks scratch)) ek i) in
@@ -148,7 +148,7 @@ module _ (counting : Bool) (chart rule marks scratch : List ℕ) where
 
   pub room-iff :
       Unmet rooms ↔
-      ((nodeCount rule * stateCount chart ≤ length marks) × (sizeFor counting (stateCount chart) ≤ length scratch))
+      ((nodeCount rule * stateCount chart ≤ length marks) × (sizeOf counting chart rule ≤ length scratch))
   room-iff = (
     λ u.
         let table = unmet-row u in

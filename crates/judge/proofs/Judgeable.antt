@@ -12,11 +12,13 @@ use Rattle.outcome.specs.Refusal.{first}
 use Rattle.outcome.proofs.First.{part-zero}
 use Rattle.chart.specs.Bytes.{stateCount, arrowCount, chartOf}
 use Rattle.rule.specs.Bytes.{nodeCount}
+use Rattle.rule.specs.Refusals.{minutely}
 use Rattle.rule.proofs.Accepted.{accepted}
 use Rattle.loops.specs.Refusal.{loopRow, acceptedTable}
 use Rattle.loops.proofs.Chain as loops
 use Rattle.loops.proofs.Accepted.{accepted-only}
 use Rattle.nodes.specs.Right.{numbersFor, Workable, AcceptedNode}
+use Rattle.nodes.proofs.Workable.{states-fit}
 use Rattle.room.specs.Room.{sizeFor}
 use Rattle.settle.specs.TimesSettled.{timesSettled}
 use Rattle.settle.specs.Settled.{Settled}
@@ -24,13 +26,8 @@ use Rattle.settle.proofs.Once.{once}
 use Rattle.judge.specs.Judged.{Judgeable, Judged}
 use Rattle.judge.proofs.Chain.{Admitted}
 
--- a number for each state, at least
-states-used : (counting : Bool) (n : ℕ) → n ≤ numbersFor counting n
-states-used true n = omega arith
-states-used false n = omega arith
-
 -- no more numbers are worked on than are asked for
-pub used-asked : (counting : Bool) (n : ℕ) → numbersFor counting n ≤ sizeFor counting n
+pub used-asked : (minutely : Bool) (n : ℕ) → numbersFor minutely n ≤ sizeFor minutely n
 used-asked true n = omega arith
 used-asked false n = omega arith
 
@@ -38,7 +35,7 @@ used-asked false n = omega arith
 pub judgeable :
     {counting : Bool} {chart rule marks scratch numbers : List ℕ} {n m k : ℕ} →
     Admitted counting chart rule marks scratch →
-    n ≡ stateCount chart → m ≡ arrowCount chart → k ≡ nodeCount rule → length numbers ≡ numbersFor counting n →
+    n ≡ stateCount chart → m ≡ arrowCount chart → k ≡ nodeCount rule → length numbers ≡ numbersFor (minutely counting rule) n →
     Judgeable counting chart n m rule k marks numbers
 judgeable p states arrows nodes size =
     record {
@@ -61,7 +58,7 @@ module _ {counting : Bool} {chart : List ℕ} {n m : ℕ} {rule : List ℕ} {k :
 
   -- there is a number for each state
   pub numbers-enough : n ≤ length numbers
-  numbers-enough = omega (arith, r .size, states-used counting n)
+  numbers-enough = omega (arith, r .size, states-fit (minutely counting rule) n)
 
   -- a chart that passes row 19 too is accepted
   accepted-now : {o : Outcome} → o ≡ first (loopRow chart ∷ []) → o .number ≡ 0 → Accepted (chartOf chart)
@@ -71,12 +68,12 @@ module _ {counting : Bool} {chart : List ℕ} {n m : ℕ} {rule : List ℕ} {k :
   -- the last node may be settled
   pub last-asks :
       {o : Outcome} {vs : List ℕ} → o ≡ first (loopRow chart ∷ []) → o .number ≡ 0 → length vs ≡ length numbers →
-      Workable counting chart n m (k - 1) marks vs × AcceptedNode counting rule (k - 1)
+      Workable counting (minutely counting rule) chart n m (k - 1) marks vs × AcceptedNode counting rule (k - 1)
   last-asks f z e = (
     record {
       passed = r .passed;
       table = omega (arith, last-row k n some-nodes, r .table);
-      size = e ∙ r .size;
+      room = omega (arith, e, r .size);
       accepted = λ _. accepted-now f z;
     },
     record { unrefused = r .unrefused; inside = omega (arith, some-nodes, r .nodes); short = r .short },

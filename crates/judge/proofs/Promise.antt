@@ -11,15 +11,14 @@ use Rattle.outcome.specs.declared.Outcome.{Outcome}
 use Rattle.outcome.specs.Refusal.{Row, first}
 use Rattle.chart.specs.Bytes.{stateCount}
 use Rattle.rule.specs.Bytes.{nodeCount}
-use Rattle.room.specs.Room.{sizeFor}
-use Rattle.judge.specs.Judge.{marksOf, marksAfter, scratchAfter, Promised}
+use Rattle.judge.specs.Judge.{sizeOf, marksOf, marksAfter, scratchAfter, Promised}
 use Rattle.judge.specs.Judged.{inputTable}
 use Rattle.judge.proofs.Chain.{Admitted, input-refuses, input-other, input-passes}
 
 module _ {counting : Bool} {chart rule marks scratch : List ℕ} {r : Outcome} {newMarks newScratch : List ℕ}
     (c : Promised counting chart rule marks scratch r newMarks newScratch) where
   abbrev size : ℕ
-  size = sizeFor counting (stateCount chart)
+  size = sizeOf counting chart rule
 
   -- Scratch is cleared only where the rows before 19 are passed: these don't answer 19, and no 0 where one is met.
   pub cleared-admitted : (r .number ≡ 0) ⊎ (r .number ≡ 19) → Admitted counting chart rule marks scratch

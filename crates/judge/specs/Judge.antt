@@ -1,5 +1,5 @@
 -- A chart and a rule judged: check, and the call that counts minutes. The quoted sentences are of 01, "Calls" and "Refused
--- with number and place", and of 02, paper 2.
+-- with number and place", and of 02, papers 2 and 7.
 use mathlib.Core.Path.{_≡_}
 use mathlib.Core.Logic.{_↔_}
 use mathlib.Core.Bool.{Bool, cond, _||_}
@@ -16,12 +16,16 @@ use Rattle.outcome.specs.Refusal.{Row, first}
 use Rattle.chart.specs.Bytes.{stateCount, chartOf}
 use Rattle.chart.specs.Refusals.{chartTable}
 use Rattle.rule.specs.Bytes.{nodeCount}
-use Rattle.rule.specs.Refusals.{ruleTable, boundRow}
+use Rattle.rule.specs.Refusals.{ruleTable, boundRow, minutely}
 use Rattle.rule.specs.Formula.{formulaAt}
 use Rattle.loops.specs.Refusal.{loopRow}
 use Rattle.room.specs.Room.{roomTable, sizeFor}
 
--- "63 after check 16": where minutes are counted
+-- "With kind 3 check wants 256 × n scratch numbers" (02, paper 7): how many are asked for, and cleared
+abbrev pub sizeOf : Bool → List ℕ → List ℕ → ℕ
+sizeOf counting chart rule = sizeFor (minutely counting rule) (stateCount chart)
+
+-- "63 after check 16": where every until is counted
 abbrev pub ownRows : Bool → List ℕ → List Row
 ownRows counting rule = cond counting (boundRow rule ∷ []) []
 
@@ -30,7 +34,7 @@ unfoldable pub judgeTable : Bool → List ℕ → List ℕ → List ℕ → List
 judgeTable counting chart rule marks scratch =
     chartTable chart ++
     ruleTable rule ++ ownRows counting rule ++
-    roomTable (stateCount chart) (nodeCount rule) (sizeFor counting (stateCount chart)) marks scratch ++
+    roomTable (stateCount chart) (nodeCount rule) (sizeOf counting chart rule) marks scratch ++
     loopRow chart ∷
     []
 
@@ -51,10 +55,10 @@ module _ (chart rule : List ℕ) where
       cond (eqb number 0) (marksOf ++ drop (nodeCount rule * stateCount chart) marks) marks
 
 -- "After acceptance, and after refusal 19, its first 4n numbers are 0; beyond those, and after any other refusal, it is
--- as lent." Where minutes are counted: "256 × n numbers, zero where 4n were".
-unfoldable pub scratchAfter : Bool → List ℕ → ℕ → List ℕ → List ℕ
-scratchAfter counting chart number scratch =
-    let zeros = sizeFor counting (stateCount chart) in
+-- as lent." Where minutes are counted, of every until or of the exact ones: "256 × n .. numbers, zero where 4n were".
+unfoldable pub scratchAfter : Bool → List ℕ → List ℕ → ℕ → List ℕ → List ℕ
+scratchAfter counting chart rule number scratch =
+    let zeros = sizeOf counting chart rule in
     cond (eqb number 0 || eqb number 19) (replicate zeros 0 ++ drop zeros scratch) scratch
 
 -- a byte is 1 just where the claim is true, and 0 just where it is not
@@ -73,5 +77,5 @@ pub record Promised (counting : Bool) (chart rule marks scratch : List ℕ) (r :
     Type 0 where
   pub answer : r ≡ judgeRefusal counting chart rule marks scratch
   pub written : newMarks ≡ marksAfter chart rule (r .number) marks
-  pub cleared : newScratch ≡ scratchAfter counting chart (r .number) scratch
+  pub cleared : newScratch ≡ scratchAfter counting chart rule (r .number) scratch
   pub meaning : r .number ≡ 0 → Meaning chart rule newMarks

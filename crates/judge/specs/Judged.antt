@@ -10,11 +10,11 @@ use Rattle.chart.specs.Bytes.{stateCount}
 use Rattle.chart.specs.Refusals.{chartTable}
 use Rattle.chart.specs.Shape.{Passed}
 use Rattle.rule.specs.Bytes.{nodeCount}
-use Rattle.rule.specs.Refusals.{ruleTable, ruleRefusal, ShortBounds}
+use Rattle.rule.specs.Refusals.{ruleTable, ruleRefusal, minutely, ShortBounds}
 use Rattle.loops.specs.Refusal.{loopRow}
 use Rattle.nodes.specs.Right.{numbersFor, Right}
-use Rattle.room.specs.Room.{roomTable, sizeFor}
-use Rattle.judge.specs.Judge.{ownRows}
+use Rattle.room.specs.Room.{roomTable}
+use Rattle.judge.specs.Judge.{ownRows, sizeOf}
 
 -- rows 1 to 18, and 63
 abbrev pub inputTable : Bool → List ℕ → List ℕ → List ℕ → List ℕ → List Row
@@ -22,10 +22,10 @@ inputTable counting chart rule marks scratch =
     chartTable chart ++
     ruleTable rule ++
     ownRows counting rule ++
-    roomTable (stateCount chart) (nodeCount rule) (sizeFor counting (stateCount chart)) marks scratch
+    roomTable (stateCount chart) (nodeCount rule) (sizeOf counting chart rule) marks scratch
 
--- a chart that passes checks 1 to 9, a rule that passes 10 to 16, and 63 where minutes are counted, room for their marks,
--- and numbers to work on
+-- a chart that passes checks 1 to 9, a rule that passes 10 to 16, and 63 where every until is counted, room for their
+-- marks, and numbers to work on
 pub record Judgeable (counting : Bool) (chart : List ℕ) (n m : ℕ) (rule : List ℕ) (k : ℕ) (marks numbers : List ℕ) :
     Type 0 where
   pub passed : Passed chart n m
@@ -33,7 +33,7 @@ pub record Judgeable (counting : Bool) (chart : List ℕ) (n m : ℕ) (rule : Li
   pub unrefused : ruleRefusal rule .number ≡ 0
   pub short : counting ≡ true → ShortBounds rule
   pub table : k * n ≤ length marks
-  pub size : length numbers ≡ numbersFor counting n
+  pub size : length numbers ≡ numbersFor (minutely counting rule) n
 
 -- row 19 was tested: the marks are as they were if it is met, else each row holds its node's marks and the rest is kept
 pub record Judged (chart : List ℕ) (n : ℕ) (rule : List ℕ) (r : Outcome) (old new : List ℕ) : Type 0 where

@@ -11,7 +11,7 @@ ghost use Rattle.judge.specs.Judge.{ownRows, Promised};
 ghost use Rattle.judge.specs.Judged.{inputTable, Judgeable, Judged};
 use outcome::Outcome;
 
-// Row 63, where minutes are counted.
+// Row 63, where every until is counted.
 fn own_refusal(counting: bool, rule: &[u8]) -> Outcome
     requires { ⌜ ruleRefusal (now rule) .number ≡ 0 ⌝ }
     ensures { λ r. ⌜ r ≡ first (ownRows counting (now (rule .entry))) ⌝ }
@@ -47,7 +47,8 @@ fn input_refusal(
     }
     let n = chart::state_count(chart);
     let k = rule::node_count(rule);
-    let size = room::scratch_size(counting, n);
+    let minutely = rule_refusals::minutely(counting, rule);
+    let size = room::scratch_size(minutely, n);
     room::room_refusal(n, k, size, marks, scratch)
 }
 
@@ -100,9 +101,10 @@ pub fn judge(
     let n = chart::state_count(chart);
     let m = chart::arrow_count(chart);
     let k = rule::node_count(rule);
-    let used = nodes::numbers_for(counting, n);
+    let minutely = rule_refusals::minutely(counting, rule);
+    let used = nodes::numbers_for(minutely, n);
     let outcome = judged(counting, chart, n, m, rule, k, marks, &mut scratch[..used]);
-    let zeros = room::scratch_size(counting, n);
+    let zeros = room::scratch_size(minutely, n);
     loops::clear(&mut scratch[..zeros]);
     outcome
 }

@@ -13,3 +13,4 @@ pub mod Beginning
 pub mod Closing
 pub mod Collecting
 pub mod Row
+pub mod Steady

@@ -13,10 +13,11 @@ use Rattle.model.specs.Engine.{num}
 use Rattle.model.specs.Marks.{flag}
 use Rattle.chart.specs.Bytes.{arrowCount, arrowWords, arrowOf, chartOf}
 use Rattle.chart.proofs.Reading.{drawn, has-states}
+use Rattle.minutes.specs.Makes.{stopsAt}
 use Rattle.moves.specs.declared.Ends.{Ends}
 use Rattle.moves.specs.Moves.{capped, moveOf, openIn}
 use Rattle.minute_rows.specs.declared.Asked.{Asked}
-use Rattle.minute_rows.specs.Numbers.{answer, taskIn, stopsBy}
+use Rattle.minute_rows.specs.Numbers.{answer, metIn, taskIn, stopsBy}
 use Rattle.minute_rows.specs.Filled.{RowsFilled, MinuteReady, rowBegun, leadsOn, Tried, Swept, Closed}
 use Rattle.minute_rows.proofs.Tasks.{stops-in, goes-in}
 use Rattle.minute_rows.proofs.Sweeping.{word-still, tried-later}
@@ -56,9 +57,9 @@ module _
       j : ℕ
       j = m .0
 
-      goes : openIn (asked .met) p q (arrowWords chart j .start) ≡ true
+      goes : openIn (metIn asked minute) p q (arrowWords chart j .start) ≡ true
       goes =
-          subst (λ a. openIn (asked .met) p q (a .start) ≡ true) (m .2)
+          subst (λ a. openIn (metIn asked minute) p q (a .start) ≡ true) (m .2)
           (sym (goes-in asked p q beyond minute (a .start)) ∙ g)
 
       tried-at :
@@ -69,17 +70,19 @@ module _
           (same ∙ sym (ap capped (m .2))) tried on
 
   pub row-filled :
-      {r : Bool} {first mid new : List ℕ} →
-      Entries (minute * n) n (rowBegun asked n minute p q beyond numbers) numbers first →
+      {met r : Bool} {first mid new : List ℕ} → met ≡ metIn asked minute →
+      Entries (minute * n) n (rowBegun (asked .all) met n minute p q beyond numbers) numbers first →
       Swept n minute (ends .back) 2048 words beyond r first mid → Closed n minute (ends .front) words beyond mid new →
       RowsFilled (chartOf chart) n (taskIn asked p q beyond) (suc minute) new
-  row-filled begun swept closed =
+  row-filled {met} is-met begun swept closed =
       let G = chartOf chart in
       let dr = drawn (ready .passed) in
       let count = has-states (ready .passed) in
       let w = taskIn asked p q beyond in
-      let stop : ℕ → Bool = λ s. stopsBy asked (flag p s) (flag q s) in
-      let stops = stops-in asked p q beyond minute in
+      let stop : ℕ → Bool = λ s. stopsBy (asked .all) met (flag p s) (flag q s) in
+      let stops : (s : ℕ) → stopsAt w (suc minute) s ≡ stop s =
+      λ s.
+      stops-in asked p q beyond minute s ∙ ap (λ b. stopsBy (asked .all) b (flag p s) (flag q s)) (sym is-met) in
       let began = filling-begun w beyond (λ s. refl) (ready .filled) stop stops begun in
       let later = swept .kept .right G w dr count (back-chart ready) began in
       let last = closed .kept .right G w dr count (front-chart ready) later in

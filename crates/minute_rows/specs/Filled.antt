@@ -17,7 +17,7 @@ use Rattle.minutes.specs.Table.{latest, leadsBy, makes}
 use Rattle.moves.specs.declared.Ends.{Ends}
 use Rattle.moves.specs.Moves.{capped, moveOf, openIn, Collected}
 use Rattle.minute_rows.specs.declared.Asked.{Asked}
-use Rattle.minute_rows.specs.Numbers.{lastBelow, answer, taskIn, stopsBy}
+use Rattle.minute_rows.specs.Numbers.{lastBelow, answer, metIn, taskIn, stopsBy}
 
 -- the rows of the first k numbers of minutes left are filled
 pub record RowsFilled (G : Chart) (n : ℕ) (w : Task) (k : ℕ) (numbers : List ℕ) : Type 0 where
@@ -62,7 +62,19 @@ pub record Ready (count : ℕ) (chart : List ℕ) (n m : ℕ) (p q beyond number
   pub second : length q ≡ n
   pub wide : length beyond ≡ n
   pub room : count * n ≤ length numbers
+  pub some : 1 ≤ count
   pub few : count ≤ 256
+
+-- the first rows are filled, and from there on the bound is met with each number of minutes left, or with none
+pub record Steady
+    (asked : Asked)
+    (from count : ℕ)
+    (chart : List ℕ)
+    (n : ℕ)
+    (p q beyond numbers : List ℕ) : Type 0 where
+  pub order : from ≤ count
+  pub same : (minute : ℕ) → from ≤ minute → minute < count → metIn asked from ≡ metIn asked minute
+  pub filled : RowsFilled (chartOf chart) n (taskIn asked p q beyond) from numbers
 
 -- the rows with fewer minutes left are filled, and the arrows are collected
 pub record MinuteReady
@@ -74,15 +86,15 @@ pub record MinuteReady
   pub passed : Passed chart n (arrowCount chart)
   pub rows : Rows n minute p q beyond numbers
   pub long : length words ≡ 2048
-  pub collected : Collected chart (openIn (asked .met) p q) ends words
+  pub collected : Collected chart (openIn (metIn asked minute) p q) ends words
   pub filled : RowsFilled (chartOf chart) n (taskIn asked p q beyond) minute numbers
 
 -- ── Inside a row ──
 
 -- the numbers that a row begins with: made at once, or as below
-abbrev pub rowBegun : Asked → ℕ → ℕ → List ℕ → List ℕ → List ℕ → List ℕ → ℕ → ℕ
-rowBegun asked n minute p q beyond old s =
-    cond (stopsBy asked (flag p s) (flag q s)) (suc (suc minute)) (lastBelow n beyond old s (suc minute))
+abbrev pub rowBegun : Bool → Bool → ℕ → ℕ → List ℕ → List ℕ → List ℕ → List ℕ → ℕ → ℕ
+rowBegun all met n minute p q beyond old s =
+    cond (stopsBy all met (flag p s) (flag q s)) (suc (suc minute)) (lastBelow n beyond old s (suc minute))
 
 -- from the row with so many minutes left the arrow leads on, as the numbers say
 abbrev pub leadsOn : ℕ → ℕ → List ℕ → List ℕ → Arrow → Bool

@@ -6,29 +6,59 @@ ghost use mathlib.Core.Bool.{cond};
 ghost use Prim.Native.Nat.{suc, _*_};
 ghost use Rattle.base.specs.Entries.{Entries};
 ghost use Rattle.chart.specs.Bytes.{chartOf};
+ghost use Rattle.minutes.specs.Untils.{metWith};
 ghost use Rattle.moves.specs.Moves.{arrowBy, moveOf};
-ghost use Rattle.minute_rows.specs.Numbers.{lastBelow, taskIn, stopsBy};
-ghost use Rattle.minute_rows.specs.Filled.{RowsFilled, InRow, Rows, Word, Words, Ready, MinuteReady};
+ghost use Rattle.minute_rows.specs.Numbers.{lastBelow, bare, endOnly, taskIn, stopsBy};
+ghost use Rattle.minute_rows.specs.Filled.{RowsFilled, InRow, Rows, Word, Words, Ready, Steady, MinuteReady};
 ghost use Rattle.minute_rows.specs.Filled.{rowBegun, leadsOn, Followed, Swept, Closed};
 use moves::Ends;
 use moves::Move;
 
-// What is asked: to fail an A-until or to meet an E-until; and whether its bound is met while minutes are left, as at
-// most is, or only after, as at least is.
-pub struct Asked {
-    pub all: bool,
-    pub met: bool,
+// When a bound is met, by the minutes that are left of it: always, as at most is; with none left, as exactly is; or
+// only after, as at least is.
+pub enum Met {
+    Always,
+    AtEnd,
+    Never,
 }
 
-// Whether a state with the marks p and q makes it at once.
-fn stops(asked: Asked, p: bool, q: bool) -> bool
-    ensures { λ r. ⌜ r ≡ stopsBy asked p q ⌝ }
+// What is asked: to fail an A-until or to meet an E-until; and when its bound is met.
+pub struct Asked {
+    pub all: bool,
+    pub met: Met,
+}
+
+// Whether the bound is met with so many minutes left.
+fn met_in(met: Met, minute: usize) -> bool
+    ensures { λ r. ⌜ r ≡ metWith (bare met) minute ⌝ }
 {
-    let met = asked.met & q;
-    if asked.all {
-        return !(p | met);
+    match met {
+        Met::Always => true,
+        Met::AtEnd => minute == 0,
+        Met::Never => false,
     }
-    met
+}
+
+// Whether the bound is met with no minute left alone.
+fn is_at_end(met: Met) -> bool
+    ensures { λ r. ⌜ r ≡ endOnly met ⌝ }
+{
+    match met {
+        Met::Always => false,
+        Met::AtEnd => true,
+        Met::Never => false,
+    }
+}
+
+// Whether a state with the marks p and q makes it at once, where the bound is met or not.
+fn stops(all: bool, met: bool, p: bool, q: bool) -> bool
+    ensures { λ r. ⌜ r ≡ stopsBy all met p q ⌝ }
+{
+    let there = met & q;
+    if all {
+        return !(p | there);
+    }
+    there
 }
 
 // The last row below in which s makes it, counted from 1; 0 if there is none.
@@ -53,9 +83,10 @@ fn begun(stops: bool, made: u32, below: u32) -> u32
     below
 }
 
-// A row begins with the states that make it at once.
+// A row begins with the states that make it at once, where the bound is met or not.
 fn begin(
-    asked: Asked,
+    all: bool,
+    met: bool,
     n: usize,
     minute: usize,
     p: &[u8],
@@ -65,7 +96,7 @@ fn begin(
 )
     requires { ⌜ Rows n minute (now p) (now q) (now beyond) (now numbers) ⌝ }
     ensures { λ _. ⌜ Entries (minute * n) n
-        (rowBegun asked n minute (now (p .entry)) (now (q .entry)) (now (beyond .entry)) (now (numbers .entry)))
+        (rowBegun all met n minute (now (p .entry)) (now (q .entry)) (now (beyond .entry)) (now (numbers .entry)))
         (now (numbers .entry)) (now (numbers .exit)) ⌝ }
 {
     let at = minute * n;
@@ -73,7 +104,7 @@ fn begin(
     let mut s = 0;
     while s < n {
         let last = below(n, minute, s, beyond, numbers);
-        numbers[at + s] = begun(stops(asked, p[s] == 1, q[s] == 1), made, last);
+        numbers[at + s] = begun(stops(all, met, p[s] == 1, q[s] == 1), made, last);
         s += 1;
     }
 }
@@ -166,12 +197,43 @@ pub fn fill_row(
     ensures { λ _. ⌜ RowsFilled (chartOf (now (chart .entry))) n
         (taskIn asked (now (p .entry)) (now (q .entry)) (now (beyond .entry))) (suc minute) (now (numbers .exit)) ⌝ }
 {
-    begin(asked, n, minute, p, q, beyond, numbers);
+    let kind = asked.met;
+    let met = met_in(kind, minute);
+    begin(asked.all, met, n, minute, p, q, beyond, numbers);
     sweep(ends.back, moves::WORDS, words, n, minute, beyond, numbers);
     rounds(ends.front, words, n, minute, beyond, numbers);
 }
 
-// So many rows, the first of which has no minute left.
+// The rows from one on up to so many, with each of which the bound is met, or with none. Their arrows are collected once.
+fn fill_rows_from(
+    asked: Asked,
+    from: usize,
+    count: usize,
+    chart: &[u8],
+    n: usize,
+    m: usize,
+    p: &[u8],
+    q: &[u8],
+    beyond: &[u8],
+    numbers: &mut [u32],
+)
+    requires { ⌜ Ready count (now chart) n m (now p) (now q) (now beyond) (now numbers) ⌝ }
+    requires { ⌜ Steady asked from count (now chart) n (now p) (now q) (now beyond) (now numbers) ⌝ }
+    ensures { λ _. ⌜ RowsFilled (chartOf (now (chart .entry))) n
+        (taskIn asked (now (p .entry)) (now (q .entry)) (now (beyond .entry))) count (now (numbers .exit)) ⌝ }
+{
+    let mut words = [0; moves::WORDS];
+    let kind = asked.met;
+    let met = met_in(kind, from);
+    let ends = moves::collect(met, chart, n, m, p, q, &mut words);
+    let mut minute = from;
+    while minute < count {
+        fill_row(asked, chart, n, minute, ends, &words, p, q, beyond, numbers);
+        minute += 1;
+    }
+}
+
+// So many rows, the first of which has no minute left. An exact bound is met in that one alone.
 pub fn fill_rows(
     asked: Asked,
     count: usize,
@@ -187,11 +249,11 @@ pub fn fill_rows(
     ensures { λ _. ⌜ RowsFilled (chartOf (now (chart .entry))) n
         (taskIn asked (now (p .entry)) (now (q .entry)) (now (beyond .entry))) count (now (numbers .exit)) ⌝ }
 {
-    let mut words = [0; moves::WORDS];
-    let ends = moves::collect(asked.met, chart, n, m, p, q, &mut words);
-    let mut minute = 0;
-    while minute < count {
-        fill_row(asked, chart, n, minute, ends, &words, p, q, beyond, numbers);
-        minute += 1;
+    let kind = asked.met;
+    if is_at_end(kind) {
+        fill_rows_from(asked, 0, 1, chart, n, m, p, q, beyond, numbers);
+        fill_rows_from(asked, 1, count, chart, n, m, p, q, beyond, numbers);
+        return;
     }
+    fill_rows_from(asked, 0, count, chart, n, m, p, q, beyond, numbers);
 }

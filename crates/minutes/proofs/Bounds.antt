@@ -6,16 +6,18 @@ use mathlib.Core.List.{List}
 use mathlib.Core.Bool.{Bool, true, false≢true}
 use Prim.Native.Nat.{ℕ, suc, _-_, _≤_}
 use native.Mathlib.Omega.{arith}
+use borrow.Author.Tests.{eqb-true, eq-eqb}
 use Rattle.base.specs.Yes.{Yes}
 use Rattle.base.proofs.Truth.{both-iff}
 use Rattle.tctl.specs.Chart.{Arrow}
-use Rattle.tctl.specs.Formula.{Bound, atMost, atLeast, Meets}
+use Rattle.tctl.specs.Formula.{Bound, atMost, atLeast, exactly, Meets}
 use Rattle.minutes.specs.Untils.{rowOf, metWith, metAt, plain, beyondOf}
 
 -- at the moment k, with m minutes left
 pub meets-iff : (b : Bound) (k m : ℕ) → suc m ≡ rowOf b - k → (metWith b m ≡ true) ↔ Meets b k
 meets-iff (atMost c) k m e = (λ h. omega arith, λ h. refl)
 meets-iff (atLeast c) k m e = (λ h. absurd (false≢true h), λ h. absurd (let z : ⊥ = omega arith in z))
+meets-iff (exactly c) k m e = (λ h. omega (arith, eqb-true m 0 h), λ h. eq-eqb m 0 (omega arith))
 
 pub met-iff :
     (b : Bound) (q : ℕ → Bool) (k m s : ℕ) → suc m ≡ rowOf b - k → (metAt b q m s ≡ true) ↔ (Meets b k × Yes q s)
@@ -36,3 +38,4 @@ pub data Beyond (arrows : List Arrow) (n : ℕ) (all : Bool) (p q : ℕ → Bool
 pub beyond : (arrows : List Arrow) (n : ℕ) (all : Bool) (p q : ℕ → Bool) (b : Bound) → Beyond arrows n all p q b
 beyond arrows n all p q (atMost c) = never (λ k h m. omega arith) (λ s. refl)
 beyond arrows n all p q (atLeast c) = always (λ k h. h) (λ s. refl)
+beyond arrows n all p q (exactly c) = never (λ k h m. omega arith) (λ s. refl)

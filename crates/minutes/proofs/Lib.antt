@@ -11,6 +11,5 @@ pub mod SomeMakes
 pub mod AllMakes
 pub mod Wait
 pub mod PlainSome
-pub mod PlainAll
-pub mod Agree
+pub mod SomeCounted
 pub mod Beyond

@@ -5,9 +5,10 @@ use mathlib.Core.Bool.{Bool, not, cond, _&&_}
 use Prim.Native.Nat.{ℕ, zero, suc, _+_, _-_, _<_}
 use native.Mathlib.Omega.{arith}
 use lib.Dec.{ltb, eqb}
+use Rattle.base.proofs.Same.{Same}
 use Rattle.tctl.specs.Chart.{Arrow}
-use Rattle.tctl.specs.Formula.{Bound, atMost, atLeast}
-use Rattle.model.proofs.Same.{Same, Joins}
+use Rattle.tctl.specs.Formula.{Bound, atMost, atLeast, exactly}
+use Rattle.tctl.proofs.Drawn.{Joins}
 use Rattle.minutes.specs.Makes.{Task, stopsAt, goesAt}
 use Rattle.minutes.specs.Table.{leads, add, onward, reached, rowsBelow, makes}
 use Rattle.minutes.specs.Untils.{rowOf, taskOf, plain, beyondOf, counted}
@@ -97,6 +98,7 @@ module _
   beyond-same : (b : Bound) → Same n (beyondOf arrows n all b p q) (beyondOf arrows n all b p′ q′)
   beyond-same (atMost c) s l = refl
   beyond-same (atLeast c) s l = plain-same n s l
+  beyond-same (exactly c) s l = refl
 
   pub counted-same : (b : Bound) (s : ℕ) → s < n → counted all b arrows n p q s ≡ counted all b arrows n p′ q′ s
   counted-same b s l =

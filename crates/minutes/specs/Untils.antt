@@ -4,21 +4,24 @@ use mathlib.Core.Bool.{Bool, true, false, cond, _&&_, _||_}
 use mathlib.Core.Bool.{not as neg}
 use mathlib.Core.List.{List}
 use Prim.Native.Nat.{ℕ, zero, suc}
+use lib.Dec.{eqb}
 use Rattle.tctl.specs.Chart.{Arrow}
-use Rattle.tctl.specs.Formula.{Bound, atMost, atLeast}
+use Rattle.tctl.specs.Formula.{Bound, atMost, atLeast, exactly}
 use Rattle.minutes.specs.Makes.{Task}
 use Rattle.minutes.specs.Table.{makes}
 
--- the row of the bound: at most c has c minutes left at first, and is beyond after c; at least c is beyond from c on, so
--- that in row r there are r minutes still to wait
+-- the row of the bound: at most c and exactly c have c minutes left at first, and are beyond after c; at least c is beyond
+-- from c on, so that in row r there are r minutes still to wait
 abbrev pub rowOf : Bound → ℕ
 rowOf (atMost c) = suc c
 rowOf (atLeast c) = c
+rowOf (exactly c) = suc c
 
--- with m minutes left the bound is met
+-- with m minutes left the bound is met; exactly c is with none left
 abbrev pub metWith : Bound → ℕ → Bool
 metWith (atMost c) m = true
 metWith (atLeast c) m = false
+metWith (exactly c) m = eqb m 0
 
 -- with m minutes left the until is met at s
 abbrev pub metAt : Bound → (ℕ → Bool) → ℕ → ℕ → Bool
@@ -44,10 +47,11 @@ unfoldable pub plain : List Arrow → ℕ → Bool → (ℕ → Bool) → (ℕ �
 plain arrows n all p q zero s = all
 plain arrows n all p q (suc k) s = makes arrows n (taskOf all (atMost 0) p q (plain arrows n all p q k)) 1 s
 
--- beyond the bound: at most c can't be met; at least c is the until with no bound
+-- beyond the bound: at most c and exactly c can't be met; at least c is the until with no bound
 abbrev pub beyondOf : List Arrow → ℕ → Bool → Bound → (ℕ → Bool) → (ℕ → Bool) → ℕ → Bool
 beyondOf arrows n all (atMost c) p q s = all
 beyondOf arrows n all (atLeast c) p q s = plain arrows n all p q n s
+beyondOf arrows n all (exactly c) p q s = all
 
 -- some run from s meets the until, or with `all` fails it
 abbrev pub finds : List Arrow → ℕ → Bool → Bound → (ℕ → Bool) → (ℕ → Bool) → ℕ → Bool

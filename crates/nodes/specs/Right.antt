@@ -16,17 +16,17 @@ use Rattle.rule.specs.Formula.{formulaAt}
 -- how many numbers are worked on: one for each state, or, where minutes are counted, one for each minute from 0 to 255
 -- and each state
 abbrev pub numbersFor : Bool → ℕ → ℕ
-numbersFor counting n = cond counting (256 * n) n
+numbersFor minutely n = cond minutely (256 * n) n
 
--- A chart that passes checks 1 to 9, a table of marks that holds row t, and numbers to work on. Minutes are counted on
--- charts that are accepted.
-pub record Workable (counting : Bool) (chart : List ℕ) (n m t : ℕ) (marks numbers : List ℕ) : Type 0 where
+-- A chart that passes checks 1 to 9, a table of marks that holds row t, and enough numbers to work on. Every until is
+-- counted only on charts that are accepted.
+pub record Workable (counting minutely : Bool) (chart : List ℕ) (n m t : ℕ) (marks numbers : List ℕ) : Type 0 where
   pub passed : Passed chart n m
   pub table : t * n + n ≤ length marks
-  pub size : length numbers ≡ numbersFor counting n
+  pub room : numbersFor minutely n ≤ length numbers
   pub accepted : counting ≡ true → Accepted (chartOf chart)
 
--- node t of a rule that passes checks 10 to 16, and 63 where minutes are counted
+-- node t of a rule that passes checks 10 to 16, and 63 where every until is counted
 pub record AcceptedNode (counting : Bool) (rule : List ℕ) (t : ℕ) : Type 0 where
   pub unrefused : ruleRefusal rule .number ≡ 0
   pub inside : t < nodeCount rule

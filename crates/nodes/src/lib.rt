@@ -3,27 +3,28 @@ ghost use mathlib.Core.Path.{_≡_};
 ghost use Prim.Native.Nat.{_≤_, _<_};
 ghost use Rattle.model.specs.Decide.{holds};
 ghost use Rattle.chart.specs.Bytes.{chartOf};
+ghost use Rattle.rule.specs.Refusals.{minutely};
 ghost use Rattle.rule.specs.Formula.{boundOf, formulaAt};
 ghost use Rattle.fill.specs.Written.{RowWritten};
 ghost use Rattle.until_start.specs.Lent.{Lent};
 ghost use Rattle.operands.specs.FromOperands.{OperandsBelow, FromOperands};
 ghost use Rattle.nodes.specs.Right.{numbersFor, Workable, AcceptedNode, OperandsRight};
-ghost use Rattle.nodes.specs.Until.{untilMet, UntilRead};
+ghost use Rattle.nodes.specs.Until.{untilMet, byMinutes, UntilRead};
 use fill::Connective;
 use rule::NodeWords;
 
-// How many numbers are worked on for n states.
-pub fn numbers_for(counting: bool, n: usize) -> usize
+// How many numbers are worked on for n states: where the minutes of some until are counted, or of none.
+pub fn numbers_for(minutely: bool, n: usize) -> usize
     requires { ⌜ n ≤ 256 ⌝ }
-    ensures { λ r. ⌜ r ≡ numbersFor counting n ⌝ }
+    ensures { λ r. ⌜ r ≡ numbersFor minutely n ⌝ }
 {
-    if counting {
+    if minutely {
         return 256 * n;
     }
     n
 }
 
-// An until of the first engine, by its operation, its kind of bound and c.
+// An until of the first engine, which knows no exact bound, by its operation, its kind of bound and c.
 fn until(
     chart: &[u8],
     n: usize,
@@ -33,7 +34,8 @@ fn until(
     marks: &mut [u8],
     numbers: &mut [u32],
 )
-    requires { ⌜ Lent (now chart) n m t (now marks) (now numbers) × OperandsBelow t node × (node .c < 65536) ⌝ }
+    requires { ⌜ Lent (now chart) n m t (now marks) (now numbers) × OperandsBelow t node × (node .c < 65536) ×
+        (1 ≤ node .kind) × (node .kind ≤ 2) ⌝ }
     ensures { λ _. ⌜ FromOperands (untilMet (node .operation) (boundOf (node .kind) (node .c)))
         (now (chart .entry)) n t node (now (marks .entry)) (now (marks .exit)) ⌝ }
 {
@@ -56,7 +58,17 @@ fn until(
     until_twice::all_at_least(chart, n, m, t, node, marks, numbers);
 }
 
-// An until, minute by minute or by the first engine.
+// Whether an until goes by minutes.
+fn by_minutes(counting: bool, node: NodeWords) -> bool
+    ensures { λ r. ⌜ r ≡ byMinutes counting node ⌝ }
+{
+    if counting {
+        return true;
+    }
+    node.kind == rule::EXACTLY
+}
+
+// An until, minute by minute or by the first engine, which works on a number for each state.
 fn settle_until(
     counting: bool,
     chart: &[u8],
@@ -67,16 +79,17 @@ fn settle_until(
     marks: &mut [u8],
     numbers: &mut [u32],
 )
-    requires { ⌜ Workable counting (now chart) n m t (now marks) (now numbers) × UntilRead counting t node ⌝ }
+    requires { ⌜ Workable counting (byMinutes counting node) (now chart) n m t (now marks) (now numbers) ×
+        UntilRead counting t node ⌝ }
     ensures { λ _. ⌜ FromOperands (untilMet (node .operation) (boundOf (node .kind) (node .c)))
         (now (chart .entry)) n t node (now (marks .entry)) (now (marks .exit)) ⌝ }
 {
-    if counting {
+    if by_minutes(counting, node) {
         let all = node.operation == rule::ALL_UNTIL;
         until_minutes::until(all, chart, n, m, t, node, marks, numbers);
         return;
     }
-    until(chart, n, m, t, node, marks, numbers);
+    until(chart, n, m, t, node, marks, &mut numbers[..n]);
 }
 
 // Node t's own row, where those of its operands are right.
@@ -90,7 +103,8 @@ pub fn settle_node(
     marks: &mut [u8],
     numbers: &mut [u32],
 )
-    requires { ⌜ Workable counting (now chart) n m t (now marks) (now numbers) × AcceptedNode counting (now rule) t ⌝ }
+    requires { ⌜ Workable counting (minutely counting (now rule)) (now chart) n m t (now marks) (now numbers) ×
+        AcceptedNode counting (now rule) t ⌝ }
     requires { ⌜ OperandsRight (now chart) n (now rule) t (now marks) ⌝ }
     ensures { λ _. ⌜ RowWritten n t (holds (chartOf (now (chart .entry))) (formulaAt (now (rule .entry)) t))
         (now (marks .entry)) (now (marks .exit)) ⌝ }

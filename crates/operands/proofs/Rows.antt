@@ -11,7 +11,7 @@ use lib.Dec.{eqb}
 use borrow.Rule.Slice.PartMut.{putMid, postOf, post-is, take-put, drop-put}
 use Rattle.model.specs.Marks.{bit, flag, mark}
 use Rattle.model.proofs.Marks.{bit-says, row-below}
-use Rattle.model.proofs.Same.{Same}
+use Rattle.base.proofs.Same.{Same}
 use Rattle.fill.specs.Written.{Written, RowWritten}
 use Rattle.operands.specs.FromOperands.{Besides}
 

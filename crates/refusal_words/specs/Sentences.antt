@@ -17,8 +17,8 @@ pub record Sentence : Type 0 where
 abbrev pub says : ℕ → String → String → Sentence
 says number counts condition = record { number = number; counts = counts; condition = condition }
 
--- 01's table, row 19 as of 02, paper 4, and 02's papers 1, 2 and 5; 18, 60, 61 and 65 are put together from the papers'
--- words, so that each can be understood alone
+-- 01's table, row 19 as of 02, paper 4, and 02's papers 1, 2 and 5; 14, 18, 60, 61 and 65 are put together from the
+-- papers' words, of paper 7 too, so that each can be understood alone
 abbrev pub sentences : List Sentence
 sentences =
     says 1 "" "chart under 9 bytes" ∷
@@ -34,11 +34,11 @@ sentences =
     says 11 "" "rule version not 1" ∷
     says 12 "" "rule's stated length is not the real one" ∷
     says 13 "" "k outside 1 to 64, or length not 7 + 8k" ∷
-    says 14 "node" "unknown operation, wrong kind, label above 15, unused field not 0" ∷
+    says 14 "node" "unknown operation, wrong kind, kind 3 with c above 255, label above 15, unused field not 0" ∷
     says 15 "node" "operand not lower than its node" ∷
     says 16 "node" "node but the last not used exactly once" ∷
     says 17 "" "marks table under k × n bytes" ∷
-    says 18 "" "scratch under 4n numbers, in count under 256 × n" ∷
+    says 18 "" "scratch under 4n numbers, in count or with kind 3 under 256 × n" ∷
     says 19 "state" "a state from which no loop holding an arrow with most above 0 can be reached" ∷
     says 20 ""
     "map under 7 bytes, version not 1, stated length not the real one or not 7 + 2 × count, or count not the detail's n" ∷

@@ -7,7 +7,7 @@ ghost use Rattle.refusal_words.specs.Sentences.{rowOf, listed, textOf, p
 ghost use Rattle.refusal_words.specs.Words.{wordsOf};
 
 // The papers' own sentences, two lines a row: what the place counts, and the condition.
-const LISTED: [u8; 1244] = *b"\nchart under 9 bytes\n\
+const LISTED: [u8; 1284] = *b"\nchart under 9 bytes\n\
     \nchart version not 1\n\
     \nchart's stated length is not the real one\n\
     \nn outside 1 to 256\n\
@@ -20,11 +20,11 @@ const LISTED: [u8; 1244] = *b"\nchart under 9 bytes\n\
     \nrule version not 1\n\
     \nrule's stated length is not the real one\n\
     \nk outside 1 to 64, or length not 7 + 8k\n\
-    node\nunknown operation, wrong kind, label above 15, unused field not 0\n\
+    node\nunknown operation, wrong kind, kind 3 with c above 255, label above 15, unused field not 0\n\
     node\noperand not lower than its node\n\
     node\nnode but the last not used exactly once\n\
     \nmarks table under k \xC3\x97 n bytes\n\
-    \nscratch under 4n numbers, in count under 256 \xC3\x97 n\n\
+    \nscratch under 4n numbers, in count or with kind 3 under 256 \xC3\x97 n\n\
     state\na state from which no loop holding an arrow with most above 0 can be reached\n\
     \nmap under 7 bytes, version not 1, stated length not the real one or not 7 + 2 \xC3\x97 count, or count not the detail's n\n\
     detail state\nmap entry not an overview state\n\

@@ -1,5 +1,5 @@
 -- Rows 17 and 18: the room that is lent. The quoted words are of 01, "Refused with number and place" and "Calls", and of
--- 02, paper 2.
+-- 02, papers 2 and 7.
 use mathlib.Core.Bool.{Bool, cond}
 use mathlib.Core.List.{List, [], _∷_}
 use Prim.Native.Nat.{ℕ, _*_}
@@ -15,15 +15,15 @@ scratchSize n = 4 * n
 abbrev pub minuteSize : ℕ → ℕ
 minuteSize n = 256 * n
 
--- of one, or of the other
+-- the one where minutes are counted, else the other
 abbrev pub sizeFor : Bool → ℕ → ℕ
-sizeFor counting n = cond counting (minuteSize n) (scratchSize n)
+sizeFor minutely n = cond minutely (minuteSize n) (scratchSize n)
 
 -- rows 17 and 18, for n states and k nodes, of a call that asks for so many numbers
 abbrev pub roomTable : ℕ → ℕ → ℕ → List ℕ → List ℕ → List Row
 roomTable n k size marks scratch =
     -- marks table under k × n bytes
     refuse 17 (whole (ltb (length marks) (k * n))) ∷
-    -- scratch under 4n numbers, or 256 × n: "18 by that size"
+    -- scratch under 4n numbers, or 256 × n: "18 by that size", "18 follows the size"
     refuse 18 (whole (ltb (length scratch) size)) ∷
     []

@@ -5,12 +5,12 @@ ghost use Rattle.outcome.specs.Refusal.{first};
 ghost use Rattle.room.specs.Room.{sizeFor, roomTable};
 use outcome::Outcome;
 
-// How many numbers are asked for, and cleared, for n states: of a call that counts minutes, or of check.
-pub fn scratch_size(counting: bool, n: usize) -> usize
+// How many numbers are asked for, and cleared, for n states: where minutes are counted, or where none are.
+pub fn scratch_size(minutely: bool, n: usize) -> usize
     requires { ⌜ n ≤ 256 ⌝ }
-    ensures { λ r. ⌜ r ≡ sizeFor counting n ⌝ }
+    ensures { λ r. ⌜ r ≡ sizeFor minutely n ⌝ }
 {
-    if counting {
+    if minutely {
         return 256 * n;
     }
     4 * n

@@ -1,4 +1,5 @@
 pub mod Sits
+pub mod Bounds
 pub mod Tree
 pub mod WrittenAccepted
 pub mod Range

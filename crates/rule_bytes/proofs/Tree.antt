@@ -5,15 +5,16 @@ use Prim.Native.Nat.{ℕ, zero, suc, _+_, _-_, _*_, _≤_, _<_}
 use native.Mathlib.Omega.{arith}
 use lib.ListN.{length, length-append}
 use Rattle.tctl.specs.Kind.{someRun, allRuns}
-use Rattle.tctl.specs.Formula.{Formula, atMost, atLeast, always, label, not, and, or, someUntil, allUntil}
-use Rattle.rule_grammar.specs.Machine.{less, more, Join, conj, disj, until}
-use Rattle.rule_grammar.specs.Machine.{join}
+use Rattle.tctl.specs.Formula.{Formula, always, label, not, and, or, someUntil, allUntil}
+use Rattle.rule_grammar.specs.Machine.{Join, conj, disj, until, join}
+use Rattle.rule_grammar.proofs.Signs.{bound-cases}
 use Rattle.rule.specs.Bytes.{nodeCount, nodeWords}
 use Rattle.rule.specs.Formula.{operation, formulaBy, formulaOf}
 use Rattle.rule.specs.declared.NodeWords.{NodeWords}
 use Rattle.rule_bytes.specs.RuleBytes.{nodes, nodeBytes, nodesFrom, headBytes, ruleBytes}
 use Rattle.rule_bytes.specs.JoinNode.{operationOf, kindOf, numberOf}
 use Rattle.rule_bytes.proofs.Sits.{Sits, sits-first, sits-second, node-sits}
+use Rattle.rule_bytes.proofs.Bounds.{bound-limit, bound-kind}
 
 pub some-nodes : (f : Formula) → 1 ≤ nodes f
 some-nodes always = omega arith
@@ -32,7 +33,10 @@ join-nodes disj f g = refl
 join-nodes (until someRun s c) f g = refl
 join-nodes (until allRuns s c) f g = refl
 
--- the node that joins them
+-- the node that joins them, as words and as bytes
+abbrev pub joinWords : Join → ℕ → ℕ → NodeWords
+joinWords j a b = record { operation = operationOf j; kind = kindOf j; a = a; b = b; c = numberOf j }
+
 abbrev pub joinBytes : Join → ℕ → ℕ → ℕ → List ℕ
 joinBytes j n f g = nodeBytes (operationOf j) (kindOf j) (n + f - 1) (n + f + g - 1) (numberOf j)
 
@@ -42,22 +46,17 @@ pub join-bytes :
 unfolding nodesFrom
 join-bytes conj n f g = refl
 join-bytes disj n f g = refl
-join-bytes (until someRun less c) n f g = refl
-join-bytes (until someRun more c) n f g = refl
-join-bytes (until allRuns less c) n f g = refl
-join-bytes (until allRuns more c) n f g = refl
+join-bytes (until someRun s c) n f g = rw (bound-limit s c)
+join-bytes (until allRuns s c) n f g = rw (bound-limit s c)
 
 -- a node's operation over operands that stand for f and g
 join-operation :
     (j : Join) (f g : Formula) (a b : ℕ) (at : ℕ → Formula) → at a ≡ f → at b ≡ g →
-    operation (operationOf j)
-    (record { operation = operationOf j; kind = kindOf j; a = a; b = b; c = numberOf j }) at ≡ join j f g
+    operation (operationOf j) (joinWords j a b) at ≡ join j f g
 join-operation conj f g a b at p q = cc
 join-operation disj f g a b at p q = cc
-join-operation (until someRun less c) f g a b at p q = cc
-join-operation (until someRun more c) f g a b at p q = cc
-join-operation (until allRuns less c) f g a b at p q = cc
-join-operation (until allRuns more c) f g a b at p q = cc
+join-operation (until someRun s c) f g a b at p q = let e = bound-kind s c in cc
+join-operation (until allRuns s c) f g a b at p q = let e = bound-kind s c in cc
 
 -- ── proofs by induction on a formula, one case for all that joins two ──
 
@@ -69,14 +68,14 @@ formula-induction P a l n j (label i) = l i
 formula-induction P a l n j (not f) = n f (formula-induction P a l n j f)
 formula-induction P a l n j (and f g) = j conj f g (formula-induction P a l n j f) (formula-induction P a l n j g)
 formula-induction P a l n j (or f g) = j disj f g (formula-induction P a l n j f) (formula-induction P a l n j g)
-formula-induction P a l n j (someUntil (atMost c) f g) =
-    j (until someRun less c) f g (formula-induction P a l n j f) (formula-induction P a l n j g)
-formula-induction P a l n j (someUntil (atLeast c) f g) =
-    j (until someRun more c) f g (formula-induction P a l n j f) (formula-induction P a l n j g)
-formula-induction P a l n j (allUntil (atMost c) f g) =
-    j (until allRuns less c) f g (formula-induction P a l n j f) (formula-induction P a l n j g)
-formula-induction P a l n j (allUntil (atLeast c) f g) =
-    j (until allRuns more c) f g (formula-induction P a l n j f) (formula-induction P a l n j g)
+formula-induction P a l n j (someUntil b f g) =
+    let p = formula-induction P a l n j f in
+    let q = formula-induction P a l n j g in
+    bound-cases (λ b. P (someUntil b f g)) (λ s c. j (until someRun s c) f g p q) b
+formula-induction P a l n j (allUntil b f g) =
+    let p = formula-induction P a l n j f in
+    let q = formula-induction P a l n j g in
+    bound-cases (λ b. P (allUntil b f g)) (λ s c. j (until allRuns s c) f g p q) b
 
 -- eight bytes a node
 pub nodes-length : (f : Formula) (n : ℕ) → length (nodesFrom n f) ≡ 8 * nodes f

@@ -12,22 +12,22 @@ use borrow.Author.Tests.{le-ltb, lt-leb, eq-eqb, ne-eqb}
 use Rattle.base.specs.Sum
 use Rattle.outcome.specs.Refusal.{success, first}
 use Rattle.outcome.proofs.Lowest.{lowest-none}
-use Rattle.tctl.specs.Kind.{someRun, allRuns}
+use Rattle.tctl.specs.Kind.{Runs, someRun, allRuns}
 use Rattle.tctl.specs.Formula.{Formula, not}
-use Rattle.rule_grammar.specs.Machine.{less, more, Join, conj, disj, until}
+use Rattle.rule_grammar.specs.Machine.{Sign, less, more, equal, mostOf, Join, conj, disj, until}
 use Rattle.rule_grammar.specs.Grammar.{InRange}
 use Rattle.rule_grammar.specs.Machine.{join}
 use Rattle.head.specs.Head.{version, statedLength}
-use Rattle.rule_grammar.proofs.Seen.{join-range}
+use Rattle.rule_grammar.proofs.Seen.{JoinLive, join-range}
 use Rattle.rule.specs.Bytes.{nodeCount, nodeWords}
 use Rattle.rule.specs.Form.{formOf}
-use Rattle.rule.specs.Refusals.{malformed, notLower, wrongKind, wrongA, usesIn, uses, ruleTable, ruleRefusal}
+use Rattle.rule.specs.Refusals.{wrongBound, wrongKind, wrongA, malformed, notLower, usesIn, uses, ruleTable, ruleRefusal}
 use Rattle.rule.specs.declared.NodeWords.{NodeWords}
 use Rattle.rule_bytes.specs.RuleBytes.{nodes, nodeBytes, nodesFrom, headBytes, ruleBytes}
 use Rattle.rule_bytes.specs.JoinNode.{operationOf, kindOf, numberOf}
 use Rattle.rule_bytes.proofs.Sits.{Sits, sits-first, sits-second, node-sits}
-use Rattle.rule_bytes.proofs.Tree.{formula-induction, join-nodes, joinBytes, join-bytes, nodes-length, some-nodes}
-use Rattle.rule_bytes.proofs.Tree.{count-written, sits-written}
+use Rattle.rule_bytes.proofs.Tree.{formula-induction, join-nodes, joinWords, joinBytes, join-bytes}
+use Rattle.rule_bytes.proofs.Tree.{nodes-length, some-nodes, count-written, sits-written}
 
 -- ── where the parts of a joined formula sit ──
 
@@ -50,17 +50,8 @@ module _ (s : List ℕ) (n : ℕ) (j : Join) (f g : Formula) (h : Sits s n (node
   pub sits-right : Sits s (n + nodes f) (nodesFrom (n + nodes f) g)
   sits-right = sits-first right last from-right
 
-  abbrev joinWords : NodeWords
-  joinWords =
-      record {
-        operation = operationOf j;
-        kind = kindOf j;
-        a = n + nodes f - 1;
-        b = n + nodes f + nodes g - 1;
-        c = numberOf j;
-      }
-
-  pub sits-node : nodeWords s (n + nodes f + nodes g) ≡ joinWords
+  pub sits-node :
+      nodeWords s (n + nodes f + nodes g) ≡ joinWords j (n + nodes f - 1) (n + nodes f + nodes g - 1)
   sits-node =
       node-sits (operationOf j) (kindOf j) (n + nodes f - 1) (n + nodes f + nodes g - 1) (numberOf j)
       (sits-second (nodes g) right last (nodes-length g (n + nodes f)) from-right)
@@ -71,16 +62,21 @@ pub record Formed (t : ℕ) (w : NodeWords) : Type 0 where
   pub formed : malformed w ≡ false
   pub lower : notLower t w ≡ false
 
-join-formed :
-    (j : Join) (t a b : ℕ) → a < t → b < t →
-    Formed t (record { operation = operationOf j; kind = kindOf j; a = a; b = b; c = numberOf j })
+-- a bound in range is one that check 14 takes
+bound-formed : (q : Runs) (s : Sign) (c a b : ℕ) → c ≤ mostOf s → wrongBound (joinWords (until q s c) a b) ≡ false
+unfolding wrongBound
+bound-formed q less c a b h = refl
+bound-formed q more c a b h = refl
+bound-formed q equal c a b h = rw (le-ltb 255 c h)
+
+join-formed : (j : Join) (t a b : ℕ) → JoinLive j → a < t → b < t → Formed t (joinWords j a b)
 unfolding malformed notLower formOf wrongKind wrongA
-join-formed conj t a b h k = record { formed = refl; lower = rw (lt-leb t a h, lt-leb t b k) }
-join-formed disj t a b h k = record { formed = refl; lower = rw (lt-leb t a h, lt-leb t b k) }
-join-formed (until someRun less c) t a b h k = record { formed = refl; lower = rw (lt-leb t a h, lt-leb t b k) }
-join-formed (until someRun more c) t a b h k = record { formed = refl; lower = rw (lt-leb t a h, lt-leb t b k) }
-join-formed (until allRuns less c) t a b h k = record { formed = refl; lower = rw (lt-leb t a h, lt-leb t b k) }
-join-formed (until allRuns more c) t a b h k = record { formed = refl; lower = rw (lt-leb t a h, lt-leb t b k) }
+join-formed conj t a b l h k = record { formed = refl; lower = rw (lt-leb t a h, lt-leb t b k) }
+join-formed disj t a b l h k = record { formed = refl; lower = rw (lt-leb t a h, lt-leb t b k) }
+join-formed (until someRun s c) t a b l h k =
+    record { formed = rw (bound-formed someRun s c a b l); lower = rw (lt-leb t a h, lt-leb t b k) }
+join-formed (until allRuns s c) t a b l h k =
+    record { formed = rw (bound-formed allRuns s c a b l); lower = rw (lt-leb t a h, lt-leb t b k) }
 
 abbrev AllFormed : Formula → Type 0
 AllFormed f =
@@ -108,7 +104,7 @@ all-formed =
     t l m (decLt t (n + nodes f)))
     λ j f g p q r s n h t l m.
     let size = join-nodes j f g in
-    turn-join j f g p q (join-range j f g r .1, join-range j f g r .2) s n h t l (omega arith) (decLt t (n + nodes f))
+    turn-join j f g p q (join-range j f g r) s n h t l (omega arith) (decLt t (n + nodes f))
     (decLt t (n + nodes f + nodes g))
   where
     turn-not :
@@ -122,17 +118,18 @@ all-formed =
         (record { formed = refl; lower = rw (lt-leb t (n + nodes f - 1) (omega arith)) })
 
     turn-join :
-        (j : Join) (f g : Formula) → AllFormed f → AllFormed g → InRange f × InRange g → (s : List ℕ) (n : ℕ) →
-        Sits s n (nodesFrom n (join j f g)) → (t : ℕ) → n ≤ t → t < n + (nodes f + nodes g + 1) → Dec (t < n + nodes f) →
-        Dec (t < n + nodes f + nodes g) → Formed t (nodeWords s t)
-    turn-join j f g p q r s n h t l m (yes k) d = p (r .0) s n (sits-left s n j f g h) t l k
+        (j : Join) (f g : Formula) → AllFormed f → AllFormed g → JoinLive j × InRange f × InRange g →
+        (s : List ℕ) (n : ℕ) → Sits s n (nodesFrom n (join j f g)) → (t : ℕ) → n ≤ t →
+        t < n + (nodes f + nodes g + 1) → Dec (t < n + nodes f) → Dec (t < n + nodes f + nodes g) →
+        Formed t (nodeWords s t)
+    turn-join j f g p q r s n h t l m (yes k) d = p (r .1) s n (sits-left s n j f g h) t l k
     turn-join j f g p q r s n h t l m (no k) (yes d) =
-        q (r .1) s (n + nodes f) (sits-right s n j f g h) t (omega arith) d
+        q (r .2) s (n + nodes f) (sits-right s n j f g h) t (omega arith) d
     turn-join j f g p q r s n h t l m (no k) (no d) =
         let one = some-nodes f in
         let two = some-nodes g in
         at-node s t (n + nodes f + nodes g) (omega arith) (sits-node s n j f g h)
-        (join-formed j t (n + nodes f - 1) (n + nodes f + nodes g - 1) (omega arith) (omega arith))
+        (join-formed j t (n + nodes f - 1) (n + nodes f + nodes g - 1) (r .0) (omega arith) (omega arith))
 
 -- ── 16: each node but the last is an operand once ──
 
@@ -159,10 +156,7 @@ uses-one s t v e =
     let one : t + 1 ≡ suc t = omega arith in
     ap (λ (k : ℕ). uses s k v) one ∙ ap (λ (w : NodeWords). uses s t v + usesIn v w) e
 
-join-uses :
-    (j : Join) (a b v : ℕ) →
-    usesIn v (record { operation = operationOf j; kind = kindOf j; a = a; b = b; c = numberOf j }) ≡
-    one-if a v + one-if b v
+join-uses : (j : Join) (a b v : ℕ) → usesIn v (joinWords j a b) ≡ one-if a v + one-if b v
 unfolding usesIn formOf
 join-uses conj a b v = refl
 join-uses disj a b v = refl

@@ -3,7 +3,7 @@
 use mathlib.Core.List.{List, _∷_, _++_}
 use Prim.Native.Nat.{ℕ, _+_, _-_, _*_}
 use Rattle.append.specs.BigEndian.{wordBytes, longBytes}
-use Rattle.tctl.specs.Formula.{Formula, Bound, atMost, atLeast, always, label, not, and, or, someUntil, allUntil}
+use Rattle.tctl.specs.Formula.{Formula, Bound, atMost, atLeast, exactly, always, label, not, and, or, someUntil, allUntil}
 
 -- how many nodes a formula has
 abbrev pub nodes : Formula → ℕ
@@ -19,14 +19,16 @@ nodes (allUntil b f g) = nodes f + nodes g + 1
 abbrev pub nodeBytes : ℕ → ℕ → ℕ → ℕ → ℕ → List ℕ
 nodeBytes operation kind a b c = operation ∷ kind ∷ (wordBytes a ++ (wordBytes b ++ wordBytes c))
 
--- "Kind is 1 (at most c) or 2 (at least c)"
+-- "Kind is 1 (at most c) or 2 (at least c)"; "Bound kind 3 is "exactly c"" (02, paper 7)
 abbrev pub kindOf : Bound → ℕ
 kindOf (atMost c) = 1
 kindOf (atLeast c) = 2
+kindOf (exactly c) = 3
 
 abbrev pub limitOf : Bound → ℕ
 limitOf (atMost c) = c
 limitOf (atLeast c) = c
+limitOf (exactly c) = c
 
 -- "operands before their node, left first": the nodes of f, from node n on, those of g, and the node of both
 abbrev pub joined : ℕ → ℕ → ℕ → ℕ → Formula → Formula → List ℕ → List ℕ → List ℕ

@@ -11,17 +11,18 @@ use borrow.Author.Tests.{lt-ltb, le-leb, ltb-true, ltb-false, ne-eqb}
 use Rattle.decimal.specs.Decimal.{decimal}
 use Rattle.decimal.proofs.Decimal.{decimal-last, decimal-more}
 use Rattle.tctl.specs.Kind.{Runs, someRun, allRuns}
-use Rattle.tctl.specs.Formula.{Formula, atMost, atLeast, always, label, not, and, or, someUntil, allUntil}
+use Rattle.tctl.specs.Formula.{Formula, always, label, not, and, or, someUntil, allUntil}
 use Rattle.rule_grammar.specs.Text.{text}
-use Rattle.rule_grammar.specs.Machine.{Sign, less, more, opening, openingOf, sign, joinText}
+use Rattle.rule_grammar.specs.Machine.{Sign, less, more, equal, signByte, opening, openingOf, sign}
 use Rattle.rule_grammar.specs.Machine.{Join, conj, disj, until, Opening, pair, timed}
-use Rattle.rule_grammar.specs.Grammar.{InRange}
+use Rattle.rule_grammar.specs.Grammar.{BoundInRange, InRange}
 use Rattle.rule_grammar.specs.Machine.{Context, negated, opened, joined, start, letter, labelled}
-use Rattle.rule_grammar.specs.Machine.{ended, equalled, linked, State, at, join}
+use Rattle.rule_grammar.specs.Machine.{ended, awaited, compared, equalled, linked, State, at, join}
 use Rattle.rule_grammar.specs.Machine.{grown, grows, mostOf, after, step, whole, done}
 use Rattle.decimal.specs.Value.{isDigit as digit}
 use Rattle.rule_grammar.specs.Machine.{Reading, ran, stepped, onward, reading}
-use Rattle.rule_grammar.proofs.Seen.{JoinLive, grows-true}
+use Rattle.rule_grammar.proofs.Signs.{bound-cases, range-iff}
+use Rattle.rule_grammar.proofs.Seen.{JoinLive, join-text, grows-true}
 
 -- ── runs of the machine ──
 
@@ -153,6 +154,15 @@ opening-leads pair K = leads-one 40 refl
 opening-leads (timed someRun) K = leads-step 69 (40 ∷ []) refl (leads-one 40 refl)
 opening-leads (timed allRuns) K = leads-step 65 (40 ∷ []) refl (leads-one 40 refl)
 
+-- behind "U" each sign is told by its first byte
+sign-step :
+    (q : Runs) (s : Sign) (f : Formula) (K : List Context) →
+    step (at (awaited q f) K) (signByte s) ≡ some (at (compared q s f) K)
+unfolding step
+sign-step q less f K = refl
+sign-step q more f K = refl
+sign-step q equal f K = refl
+
 -- behind the first operand, up to the second
 sign-leads :
     (j : Join) (f : Formula) (K : List Context) {st : State} → JoinLive j → Behind f (opened (openingOf j) ∷ K) st →
@@ -160,28 +170,26 @@ sign-leads :
 unfolding step
 sign-leads conj f K l h = leads-step 32 (38 ∷ []) (behind-step 32 refl h) (leads-one 38 refl)
 sign-leads disj f K l h = leads-step 32 (124 ∷ []) (behind-step 32 refl h) (leads-one 124 refl)
-sign-leads (until q less c) f K l h =
-    leads-step 32 (85 ∷ 60 ∷ 61 ∷ decimal c) (behind-step 32 refl h) (
-    leads-step 85 (60 ∷ 61 ∷ decimal c) refl (
-    leads-step 60 (61 ∷ decimal c) refl (
+sign-leads (until q s c) f K l h =
+    leads-step 32 (85 ∷ signByte s ∷ 61 ∷ decimal c) (behind-step 32 refl h) (
+    leads-step 85 (signByte s ∷ 61 ∷ decimal c) refl (
+    leads-step (signByte s) (61 ∷ decimal c) (sign-step q s f K) (
     leads-step 61 (decimal c) refl (
-    bound-number q less c f K l))))
-sign-leads (until q more c) f K l h =
-    leads-step 32 (85 ∷ 62 ∷ 61 ∷ decimal c) (behind-step 32 refl h) (
-    leads-step 85 (62 ∷ 61 ∷ decimal c) refl (
-    leads-step 62 (61 ∷ decimal c) refl (
-    leads-step 61 (decimal c) refl (
-    bound-number q more c f K l))))
+    bound-number q s c f K l))))
 
 join-reads :
-    (j : Join) (f g : Formula) (s u : List ℕ) → JoinLive j → Reads f s → Reads g u → Reads (join j f g) (joinText j s u)
+    (j : Join) (f g : Formula) → JoinLive j → Reads f (text f) → Reads g (text g) →
+    Reads (join j f g) (text (join j f g))
 unfolding step
-join-reads j f g s u l p q =
-    record {
+join-reads j f g l p q =
+    rw (join-text j f g)
+    (record {
       state = λ K. at (ended (join j f g)) K;
       leads =
           λ K.
           let o = openingOf j in
+          let s = text f in
+          let u = text g in
           leads-both (opening o) (s ++ (sign j ++ (32 ∷ (u ++ 41 ∷ [])))) (opening-leads o K) (
           leads-both s (sign j ++ (32 ∷ (u ++ 41 ∷ []))) (p .leads (opened o ∷ K)) (
           leads-both (sign j) (32 ∷ (u ++ 41 ∷ [])) (sign-leads j f K l (p .behind (opened o ∷ K))) (
@@ -189,7 +197,7 @@ join-reads j f g s u l p q =
           leads-both u (41 ∷ []) (q .leads (joined j f ∷ K))
           (leads-one 41 (behind-step 41 refl (q .behind (joined j f ∷ K))))))));
       behind = λ K. end;
-    }
+    })
 
 -- by induction on the formula: its parts are read one behind another, whatever is open around them
 pub text-reads : (f : Formula) → InRange f → Reads f (text f)
@@ -218,13 +226,15 @@ text-reads (not f) h =
       leads = λ K. leads-step 33 (text f) refl (p .leads (negated ∷ K));
       behind = λ K. negation (p .behind (negated ∷ K));
     }
-text-reads (and f g) h = join-reads conj f g (text f) (text g) tt (text-reads f (h .0)) (text-reads g (h .1))
-text-reads (or f g) h = join-reads disj f g (text f) (text g) tt (text-reads f (h .0)) (text-reads g (h .1))
-text-reads (someUntil (atMost c) f g) h =
-    join-reads (until someRun less c) f g (text f) (text g) (h .0) (text-reads f (h .1)) (text-reads g (h .2))
-text-reads (someUntil (atLeast c) f g) h =
-    join-reads (until someRun more c) f g (text f) (text g) (h .0) (text-reads f (h .1)) (text-reads g (h .2))
-text-reads (allUntil (atMost c) f g) h =
-    join-reads (until allRuns less c) f g (text f) (text g) (h .0) (text-reads f (h .1)) (text-reads g (h .2))
-text-reads (allUntil (atLeast c) f g) h =
-    join-reads (until allRuns more c) f g (text f) (text g) (h .0) (text-reads f (h .1)) (text-reads g (h .2))
+text-reads (and f g) h = join-reads conj f g tt (text-reads f (h .0)) (text-reads g (h .1))
+text-reads (or f g) h = join-reads disj f g tt (text-reads f (h .0)) (text-reads g (h .1))
+text-reads (someUntil b f g) h =
+    let p = text-reads f (h .1) in
+    let q = text-reads g (h .2) in
+    bound-cases (λ b. BoundInRange b → Reads (someUntil b f g) (text (someUntil b f g)))
+    (λ s c l. join-reads (until someRun s c) f g (range-iff s c .0 l) p q) b (h .0)
+text-reads (allUntil b f g) h =
+    let p = text-reads f (h .1) in
+    let q = text-reads g (h .2) in
+    bound-cases (λ b. BoundInRange b → Reads (allUntil b f g) (text (allUntil b f g)))
+    (λ s c l. join-reads (until allRuns s c) f g (range-iff s c .0 l) p q) b (h .0)

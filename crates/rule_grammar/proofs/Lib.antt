@@ -1,3 +1,4 @@
+pub mod Signs
 pub mod Seen
 pub mod Sound
 pub mod Complete

@@ -13,14 +13,15 @@ use Rattle.decimal.proofs.DigitRange.{Digit, digit-true}
 use Rattle.decimal.proofs.Decimal.{decimal-last, decimal-more}
 use Rattle.tctl.specs.Kind.{someRun, allRuns}
 use Rattle.tctl.specs.Formula.{Formula, label, not}
-use Rattle.rule_grammar.specs.Text.{text}
-use Rattle.rule_grammar.specs.Machine.{less, more, signByte, letterOf, opening, openingOf, sign, joinText}
+use Rattle.rule_grammar.specs.Text.{operands, text}
+use Rattle.rule_grammar.specs.Machine.{signByte, letterOf, opening, openingOf, sign, joinText}
 use Rattle.rule_grammar.specs.Machine.{Join, conj, disj, until, pair, timed}
 use Rattle.rule_grammar.specs.Grammar.{InRange}
 use Rattle.rule_grammar.specs.Machine.{Context, negated, opened, joined, Focus, start, t, tr, tru, letter, labelled}
 use Rattle.rule_grammar.specs.Machine.{quantified, ended, spaced, awaited, compared, equalled, linked, State, at, join}
 use Rattle.rule_grammar.specs.Machine.{on, grown, grows, mostOf, after, further, step}
 use Rattle.decimal.specs.Value.{isDigit as digit}
+use Rattle.rule_grammar.proofs.Signs.{range-iff, most-range, until-sign}
 
 -- what stands before an operand
 abbrev pub beside : Context → List ℕ
@@ -91,27 +92,21 @@ Live (at x K) = FocusLive x × StackLive K
 pub join-live : (j : Join) (f g : Formula) → JoinLive j → InRange f → InRange g → InRange (join j f g)
 join-live conj f g h p q = (p, q)
 join-live disj f g h p q = (p, q)
-join-live (until someRun less c) f g h p q = (h, p, q)
-join-live (until someRun more c) f g h p q = (h, p, q)
-join-live (until allRuns less c) f g h p q = (h, p, q)
-join-live (until allRuns more c) f g h p q = (h, p, q)
+join-live (until someRun s c) f g h p q = (range-iff s c .1 h, p, q)
+join-live (until allRuns s c) f g h p q = (range-iff s c .1 h, p, q)
 
 pub join-range : (j : Join) (f g : Formula) → InRange (join j f g) → JoinLive j × InRange f × InRange g
 join-range conj f g h = (tt, h .0, h .1)
 join-range disj f g h = (tt, h .0, h .1)
-join-range (until someRun less c) f g h = h
-join-range (until someRun more c) f g h = h
-join-range (until allRuns less c) f g h = h
-join-range (until allRuns more c) f g h = h
+join-range (until someRun s c) f g h = (range-iff s c .0 (h .0), h .1, h .2)
+join-range (until allRuns s c) f g h = (range-iff s c .0 (h .0), h .1, h .2)
 
 pub join-text : (j : Join) (f g : Formula) → text (join j f g) ≡ joinText j (text f) (text g)
 unfolding text
 join-text conj f g = refl
 join-text disj f g = refl
-join-text (until someRun less c) f g = refl
-join-text (until someRun more c) f g = refl
-join-text (until allRuns less c) f g = refl
-join-text (until allRuns more c) f g = refl
+join-text (until someRun s c) f g = ap (λ u. operands (69 ∷ 40 ∷ []) u (text f) (text g)) (until-sign s c)
+join-text (until allRuns s c) f g = ap (λ u. operands (65 ∷ 40 ∷ []) u (text f) (text g)) (until-sign s c)
 
 -- ── digits ──
 
@@ -234,20 +229,16 @@ step-each (at (spaced pair f) K) b h =
 step-each (at (spaced (timed q) f) K) b h = on-each b 85 (record { live = h; adds = simp append-assoc }) nothing
 step-each (at (awaited q f) K) b h =
     on-each b 60 (record { live = h; adds = simp append-assoc }) (
-    on-each b 62 (record { live = h; adds = simp append-assoc })
-    nothing)
+    on-each b 62 (record { live = h; adds = simp append-assoc }) (
+    on-each b 61 (record { live = h; adds = simp append-assoc })
+    nothing))
 step-each (at (compared q s f) K) b h = on-each b 61 (record { live = h; adds = simp append-assoc }) nothing
-step-each (at (equalled q less f) K) b h =
-    test-each (digit b) (at (linked (until q less (b - 48)) f) K)
+step-each (at (equalled q s f) K) b h =
+    test-each (digit b) (at (linked (until q s (b - 48)) f) K)
     (λ e.
     let d = digit-true b e in
-    record { live = ((omega (arith, d .low, d .high), h .0), h .1); adds = rw (one-digit b d) (simp append-assoc) })
-    nothing
-step-each (at (equalled q more f) K) b h =
-    test-each (digit b) (at (linked (until q more (b - 48)) f) K)
-    (λ e.
-    let d = digit-true b e in
-    record { live = ((omega (arith, d .low, d .high), h .0), h .1); adds = rw (one-digit b d) (simp append-assoc) })
+    let few : b - 48 ≤ mostOf s = omega (arith, d .low, d .high, most-range s .0) in
+    record { live = ((few, h .0), h .1); adds = rw (one-digit b d) (simp append-assoc) })
     nothing
 step-each (at (linked j f) K) b h =
     on-each b 32 (record { live = (tt, (h .0, h .1)); adds = simp (append-assoc, append-nil) })

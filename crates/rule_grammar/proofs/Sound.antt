@@ -7,7 +7,7 @@ use native.Mathlib.Omega.{arith}
 use Rattle.decimal.specs.Decimal.{decimal}
 use Rattle.tctl.specs.Formula.{Formula, always, label, not}
 use Rattle.rule_grammar.specs.Text.{text}
-use Rattle.rule_grammar.specs.Machine.{less, more, openingOf, sign, joinText}
+use Rattle.rule_grammar.specs.Machine.{less, openingOf, sign, joinText}
 use Rattle.rule_grammar.specs.Machine.{Join, conj, until, Opening, pair, timed}
 use Rattle.rule_grammar.specs.Grammar.{InRange, TextOf, Begins}
 use Rattle.rule_grammar.specs.Machine.{Context, negated, opened, joined, Focus, start, t, tr, tru, letter, labelled}
@@ -104,16 +104,11 @@ part-begins (spaced (timed q) f) h =
 part-begins (awaited q f) h =
     from-join (until q less 0) f (part (awaited q f)) (60 ∷ 61 ∷ (decimal 0 ++ lastly)) (omega arith) h
     (simp append-assoc)
-part-begins (compared q less f) h =
-    from-join (until q less 0) f (part (compared q less f)) (61 ∷ (decimal 0 ++ lastly)) (omega arith) h
+part-begins (compared q s f) h =
+    from-join (until q s 0) f (part (compared q s f)) (61 ∷ (decimal 0 ++ lastly)) (omega arith) h
     (simp append-assoc)
-part-begins (compared q more f) h =
-    from-join (until q more 0) f (part (compared q more f)) (61 ∷ (decimal 0 ++ lastly)) (omega arith) h
-    (simp append-assoc)
-part-begins (equalled q less f) h =
-    from-join (until q less 0) f (part (equalled q less f)) (decimal 0 ++ lastly) (omega arith) h (simp append-assoc)
-part-begins (equalled q more f) h =
-    from-join (until q more 0) f (part (equalled q more f)) (decimal 0 ++ lastly) (omega arith) h (simp append-assoc)
+part-begins (equalled q s f) h =
+    from-join (until q s 0) f (part (equalled q s f)) (decimal 0 ++ lastly) (omega arith) h (simp append-assoc)
 part-begins (linked j f) h = from-join j f (part (linked j f)) lastly (h .0) (h .1) (simp append-assoc)
 
 pub seen-begins : (st : State) → Live st → Begins (seen st)

@@ -3,13 +3,14 @@ use mathlib.Core.Path.{_≡_}
 use mathlib.Core.List.{List, _++_}
 use Prim.Native.Nat.{ℕ, _≤_}
 use lib.ListN.{length, take}
-use Rattle.tctl.specs.Formula.{Formula, Bound, atMost, atLeast, always, label, not, and, or, someUntil, allUntil}
+use Rattle.tctl.specs.Formula.{Formula, Bound, atMost, atLeast, exactly, always, label, not, and, or, someUntil, allUntil}
 use Rattle.rule_grammar.specs.Text.{text}
 
--- "c .. up to 65,535"
+-- "c .. up to 65,535"; of `U==c` "c above 255 there is refused with 64" (02, paper 7)
 abbrev pub BoundInRange : Bound → Type 0
 BoundInRange (atMost c) = c ≤ 65535
 BoundInRange (atLeast c) = c ≤ 65535
+BoundInRange (exactly c) = c ≤ 255
 
 -- "`L0` to `L15`"
 abbrev pub InRange : Formula → Type 0

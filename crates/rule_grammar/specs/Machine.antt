@@ -9,21 +9,23 @@ use lib.Dec.{eqb, leb, ltb}
 use Rattle.tctl.specs.Kind.{Runs, someRun, allRuns}
 use Rattle.decimal.specs.Decimal.{decimal}
 use Rattle.decimal.specs.Value.{isDigit as digit}
-use Rattle.tctl.specs.Formula.{Formula, Bound, atMost, atLeast, always, label, not, and, or, someUntil, allUntil}
+use Rattle.tctl.specs.Formula.{Formula, Bound, atMost, atLeast, exactly, always, label, not, and, or, someUntil, allUntil}
 use Rattle.rule_grammar.specs.Grammar.{Verdict, fault, formula}
 
--- "E and A with either sign"
+-- "E and A with either sign", and "`U==c`" (02, paper 7)
 pub data Sign : Type 0 where
-  less more : Sign
+  less more equal : Sign
 
 abbrev pub bound : Sign → ℕ → Bound
 bound less c = atMost c
 bound more c = atLeast c
+bound equal c = exactly c
 
--- < and >
+-- its first byte: <, > or =
 abbrev pub signByte : Sign → ℕ
 signByte less = 60
 signByte more = 62
+signByte equal = 61
 
 -- E and A
 abbrev pub letterOf : Runs → ℕ
@@ -78,7 +80,7 @@ pub data Focus : Type 0 where
   quantified : Runs → Focus
   -- all of it; what was negated is still open
   ended : Formula → Focus
-  -- the first operand, and then a space; "U"; a sign; "="
+  -- the first operand, and then a space; "U"; <, > or =; "="
   spaced : Opening → Formula → Focus
   awaited : Runs → Formula → Focus
   compared : Runs → Sign → Formula → Focus
@@ -112,6 +114,7 @@ grows most n b = digit b && (ltb 0 n && leb (grown n b) most)
 abbrev pub mostOf : Sign → ℕ
 mostOf less = 65535
 mostOf more = 65535
+mostOf equal = 255
 
 -- behind a whole formula: what is negated ends with it
 abbrev pub after : Formula → List Context → ℕ → Option State
@@ -145,7 +148,11 @@ step (at (quantified q) K) b = on b 40 (at start (opened (timed q) ∷ K)) none
 step (at (ended f) K) b = after f K b
 step (at (spaced pair f) K) b = on b 38 (at (linked conj f) K) (on b 124 (at (linked disj f) K) none)
 step (at (spaced (timed q) f) K) b = on b 85 (at (awaited q f) K) none
-step (at (awaited q f) K) b = on b 60 (at (compared q less f) K) (on b 62 (at (compared q more f) K) none)
+step (at (awaited q f) K) b =
+    on b 60 (at (compared q less f) K) (
+    on b 62 (at (compared q more f) K) (
+    on b 61 (at (compared q equal f) K)
+    none))
 step (at (compared q s f) K) b = on b 61 (at (equalled q s f) K) none
 step (at (equalled q s f) K) b = cond (digit b) (some (at (linked (until q s (b - 48)) f) K)) none
 step (at (linked j f) K) b = on b 32 (at start (joined j f ∷ K)) (further j f K b)

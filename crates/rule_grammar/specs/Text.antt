@@ -2,12 +2,13 @@
 use mathlib.Core.List.{List, [], _∷_, _++_}
 use Prim.Native.Nat.{ℕ}
 use Rattle.decimal.specs.Decimal.{decimal}
-use Rattle.tctl.specs.Formula.{Formula, Bound, atMost, atLeast, always, label, not, and, or, someUntil, allUntil}
+use Rattle.tctl.specs.Formula.{Formula, Bound, atMost, atLeast, exactly, always, label, not, and, or, someUntil, allUntil}
 
--- "U with its bound": `U<=c` or `U>=c`, "c without leading zeros"
+-- "U with its bound": `U<=c` or `U>=c`, "c without leading zeros"; "Text rules write `U==c`" (02, paper 7)
 abbrev pub untilSign : Bound → List ℕ
 untilSign (atMost c) = 85 ∷ 60 ∷ 61 ∷ decimal c
 untilSign (atLeast c) = 85 ∷ 62 ∷ 61 ∷ decimal c
+untilSign (exactly c) = 85 ∷ 61 ∷ 61 ∷ decimal c
 
 -- "one space on each side of &, | and U with its bound, none elsewhere": the opening, f, the sign, g and a bracket
 abbrev pub operands : List ℕ → List ℕ → List ℕ → List ℕ → List ℕ

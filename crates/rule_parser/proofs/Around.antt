@@ -6,7 +6,7 @@ use native.Mathlib.Omega.{arith}
 use lib.ListN.{length, getD}
 use Rattle.tctl.specs.Kind.{someRun, allRuns}
 use Rattle.tctl.specs.Formula.{Formula}
-use Rattle.rule_grammar.specs.Machine.{less, more, Join, conj, disj, until, Opening}
+use Rattle.rule_grammar.specs.Machine.{Join, conj, disj, until, Opening}
 use Rattle.rule_grammar.specs.Machine.{pair, timed, Context, negated, opened, joined, ended, at}
 use Rattle.rule_bytes.specs.RuleBytes.{nodes, nodesFrom}
 use Rattle.rule_bytes.proofs.Tree.{some-nodes}
@@ -24,10 +24,8 @@ open-tag (timed allRuns) = (omega arith, omega arith)
 pub join-tag : (j : Join) → 8 ≤ joinTag j
 join-tag conj = omega arith
 join-tag disj = omega arith
-join-tag (until someRun less c) = omega arith
-join-tag (until someRun more c) = omega arith
-join-tag (until allRuns less c) = omega arith
-join-tag (until allRuns more c) = omega arith
+join-tag (until someRun s c) = omega arith
+join-tag (until allRuns s c) = omega arith
 
 module _ (t : List ℕ) (s : Spot) (stack all : List ℕ) where
   abbrev tag : ℕ

@@ -9,12 +9,13 @@ use lib.Seq.{sets, length-sets}
 use Rattle.tctl.specs.Kind.{someRun, allRuns}
 use Rattle.tctl.specs.Formula.{Formula, not}
 use Rattle.rule_grammar.specs.Grammar.{fault}
-use Rattle.rule_grammar.specs.Machine.{Join, conj, disj, until, less, more}
+use Rattle.rule_grammar.specs.Machine.{Join, conj, disj, until}
 use Rattle.rule_grammar.specs.Machine.{Opening, Context, negated, opened, joined, start, ended, at, join, step, done}
 use Rattle.rule_grammar.specs.Machine.{judge, from}
 use Rattle.rule_grammar.proofs.From.{from-end, from-stuck, from-halt, from-same}
 use Rattle.rule_bytes.specs.RuleBytes.{nodes, nodeBytes, nodesFrom}
 use Rattle.rule_bytes.specs.JoinNode.{operationOf, kindOf, numberOf}
+use Rattle.rule_bytes.proofs.Bounds.{kind-few}
 use Rattle.rule_bytes.proofs.Tree.{joinBytes, join-nodes, join-bytes}
 use Rattle.rule_tokens.specs.Tags.{joinTag}
 use Rattle.rule_numbers.specs.Byte.{byteIs}
@@ -30,10 +31,8 @@ use Rattle.rule_parser.proofs.Nodes.{noded-more}
 tag-parts : (j : Join) → (joinTag j / 8 ≡ operationOf j) × (joinTag j % 8 ≡ kindOf j)
 tag-parts conj = (refl, refl)
 tag-parts disj = (refl, refl)
-tag-parts (until someRun less c) = (refl, refl)
-tag-parts (until someRun more c) = (refl, refl)
-tag-parts (until allRuns less c) = (refl, refl)
-tag-parts (until allRuns more c) = (refl, refl)
+tag-parts (until someRun s c) = let few = kind-few s c in (omega arith, omega arith)
+tag-parts (until allRuns s c) = let few = kind-few s c in (omega arith, omega arith)
 
 -- ── standing in one phase ──
 

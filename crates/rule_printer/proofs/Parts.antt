@@ -5,11 +5,11 @@ use mathlib.Core.List.{[], _∷_, _++_}
 use Prim.Native.Nat.{ℕ, _≤_, _<_}
 use lib.Dec.{eqb}
 use borrow.Author.Tests.{lt-ltb, le-ltb, eq-eqb, ne-eqb}
-use Rattle.tctl.specs.Formula.{atMost, atLeast}
+use Rattle.tctl.specs.Formula.{atMost, atLeast, exactly}
 use Rattle.decimal.specs.Decimal.{decimal}
 use Rattle.rule.specs.Formula.{boundOf}
 use Rattle.rule_grammar.specs.Text.{untilSign}
-use Rattle.rule_printer.specs.Parts.{leafText, openingText, signText}
+use Rattle.rule_printer.specs.Parts.{leafText, openingText, kindByte, signText}
 
 module _ (operation a : ℕ) where
   pub leaf-true : operation ≡ 0 → leafText operation a ≡ 116 ∷ 114 ∷ 117 ∷ 101 ∷ []
@@ -43,10 +43,14 @@ module _ (operation kind c : ℕ) where
   sign-pair e h = rw (le-ltb 4 operation h, e)
 
 pub until-parts :
-    (kind c : ℕ) {byte : ℕ} → byte ≡ cond (eqb kind 1) 60 62 →
+    (kind c : ℕ) {byte : ℕ} → byte ≡ kindByte kind →
     untilSign (boundOf kind c) ≡ 85 ∷ [] ++ byte ∷ [] ++ 61 ∷ [] ++ decimal c
-until-parts kind c e = rw e (turn (eqb kind 1))
+until-parts kind c e = rw e (turn (eqb kind 1) (eqb kind 2))
   where
-    turn : (one : Bool) → untilSign (cond one (atMost c) (atLeast c)) ≡ 85 ∷ cond one 60 62 ∷ 61 ∷ decimal c
-    turn true = refl
-    turn false = refl
+    turn :
+        (one two : Bool) →
+        untilSign (cond one (atMost c) (cond two (atLeast c) (exactly c))) ≡
+        85 ∷ cond one 60 (cond two 62 61) ∷ 61 ∷ decimal c
+    turn true two = refl
+    turn false true = refl
+    turn false false = refl

@@ -8,7 +8,8 @@ use Rattle.tctl.specs.Formula.{Formula}
 use Rattle.decimal.proofs.Decimal.{decimal-size}
 use Rattle.rule_grammar.specs.Text.{text}
 use Rattle.rule_grammar.specs.Grammar.{InRange}
-use Rattle.rule_grammar.specs.Machine.{less, more, Join, conj, disj, until, openingOf, opening, sign, joinText}
+use Rattle.rule_grammar.specs.Machine.{Join, conj, disj, until, openingOf, opening, sign, joinText}
+use Rattle.rule_grammar.proofs.Signs.{most-range}
 use Rattle.rule_grammar.proofs.Seen.{JoinLive, join-text, join-range}
 use Rattle.rule.specs.Formula.{formulaOf}
 use Rattle.rule.specs.Refusals.{ruleRefusal}
@@ -22,8 +23,7 @@ use Rattle.rule_printer.proofs.NodeCount.{nodes-counted}
 join-size : (j : Join) → JoinLive j → length (opening (openingOf j)) + length (sign j) ≤ 11
 join-size conj h = omega arith
 join-size disj h = omega arith
-join-size (until q less c) h = omega (arith, decimal-size 4 c (omega arith))
-join-size (until q more c) h = omega (arith, decimal-size 4 c (omega arith))
+join-size (until q s c) h = omega (arith, decimal-size 4 c (omega (arith, h, most-range s .1)))
 
 -- and a space and a bracket besides
 joined-size :

@@ -16,6 +16,10 @@ unfoldable pub openingText : ℕ → List ℕ
 openingText operation =
     cond (ltb operation 5) (cond (eqb operation 2) 33 40 ∷ []) (cond (eqb operation 5) 69 65 ∷ 40 ∷ [])
 
+-- the first byte of <=, >= or ==, by the kind of the bound
+abbrev pub kindByte : ℕ → ℕ
+kindByte kind = cond (eqb kind 1) 60 (cond (eqb kind 2) 62 61)
+
 -- "&, | and U with its bound"
 unfoldable pub signText : ℕ → ℕ → ℕ → List ℕ
 signText operation kind c = cond (ltb 4 operation) (untilSign (boundOf kind c)) (cond (eqb operation 3) 38 124 ∷ [])

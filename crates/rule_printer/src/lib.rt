@@ -7,7 +7,7 @@ ghost use Rattle.rule.specs.Bytes.{nodeCount};
 ghost use Rattle.rule.specs.Refusals.{ruleRefusal};
 ghost use Rattle.rule.specs.Formula.{boundOf, formulaAt};
 ghost use Rattle.rule_grammar.specs.Text.{untilSign, text};
-ghost use Rattle.rule_printer.specs.Parts.{leafText, openingText, signText, betweenText};
+ghost use Rattle.rule_printer.specs.Parts.{leafText, openingText, kindByte, signText, betweenText};
 
 // One of two bytes.
 fn pick(test: bool, a: u8, b: u8) -> u8
@@ -43,12 +43,20 @@ fn put_opening(operation: u8, at: usize, out: &mut [u8]) -> usize
     append::put(b'(', lettered, out)
 }
 
+// The first byte of <=, >= or ==, by the kind of the bound.
+fn kind_byte(kind: u8) -> u8
+    ensures { λ r. ⌜ r ≡ kindByte kind ⌝ }
+{
+    let other = pick(kind == rule::AT_LEAST, b'>', b'=');
+    pick(kind == rule::AT_MOST, b'<', other)
+}
+
 fn put_until(kind: u8, c: usize, at: usize, out: &mut [u8]) -> usize
     requires { ⌜ Room at (untilSign (boundOf kind c)) (now out) ⌝ }
     ensures { λ r. ⌜ Appended at (untilSign (boundOf kind c)) r (now (out .entry)) (now (out .exit)) ⌝ }
 {
     let awaited = append::put(b'U', at, out);
-    let compared = append::put(pick(kind == rule::AT_MOST, b'<', b'>'), awaited, out);
+    let compared = append::put(kind_byte(kind), awaited, out);
     let equalled = append::put(b'=', compared, out);
     decimal::put_number(c, equalled, out)
 }

@@ -5,9 +5,8 @@ use Prim.Native.Nat.{_<_, _≤_}
 use native.Mathlib.Omega.{arith}
 use lib.Dec.{eqb, ltb}
 use borrow.Author.Tests.{lt-ltb, le-ltb, ne-eqb}
-use Rattle.outcome.specs.Refusal.{outside}
 use Rattle.rule.specs.Form.{formOf}
-use Rattle.rule.specs.Refusals.{wrongKind, wrongA, malformed}
+use Rattle.rule.specs.Refusals.{wrongBound, wrongKind, wrongA, malformed}
 use Rattle.rule.specs.declared.NodeWords.{NodeWords}
 
 alone : (x : Bool) → (x || false || false || false) ≡ x
@@ -26,9 +25,9 @@ last false false false false = refl
 
 module _ (w : NodeWords) where
   -- an until uses every field
-  pub malformed-until : formOf (w .operation) ≡ 4 → malformed w ≡ outside 1 2 (w .kind)
+  pub malformed-until : formOf (w .operation) ≡ 4 → malformed w ≡ wrongBound w
   unfolding malformed wrongKind wrongA
-  malformed-until e = rw e (alone (outside 1 2 (w .kind)))
+  malformed-until e = rw e (alone (wrongBound w))
 
   pub malformed-unknown : 4 < formOf (w .operation) → malformed w ≡ true
   unfolding malformed

@@ -5,7 +5,8 @@ ghost use Prim.Native.Nat.{_≤_};
 ghost use lib.ListN.{length};
 ghost use Rattle.outcome.specs.Refusal.{first, rows};
 ghost use Rattle.rule.specs.Shape.{Shape};
-ghost use Rattle.rule.specs.Refusals.{ruleTable, ruleRefusal, wrongA, malformed, notLower, boundRow};
+ghost use Rattle.rule.specs.Refusals.{ruleTable, ruleRefusal, wrongBound, wrongA, malformed, notLower, boundRow};
+ghost use Rattle.rule.specs.Refusals.{hasExact, minutely};
 ghost use Rattle.rule.specs.Rows.{offends, nodeRow, nodeRows};
 use outcome::Outcome;
 use rule::NodeWords;
@@ -37,13 +38,23 @@ fn wrong_a(form: u8, a: usize) -> bool
     form == rule::form::LABELLED && rule::LAST_LABEL < a
 }
 
+// The fault of an until's kind and c: "exactly" goes up to 255.
+fn wrong_bound(w: NodeWords) -> bool
+    ensures { λ r. ⌜ r ≡ wrongBound w ⌝ }
+{
+    if w.kind == rule::EXACTLY {
+        return w.c > rule::LONGEST;
+    }
+    w.kind < rule::AT_MOST || rule::AT_LEAST < w.kind
+}
+
 // The fault of row 14.
 fn is_malformed(w: NodeWords) -> bool
     ensures { λ r. ⌜ r ≡ malformed w ⌝ }
 {
     let form = rule::form::form(w.operation);
     if form == rule::form::BOUNDED {
-        return w.kind < rule::AT_MOST || rule::AT_LEAST < w.kind;
+        return wrong_bound(w);
     }
     if rule::form::BOUNDED < form {
         return true;
@@ -80,9 +91,6 @@ fn is_not_lower(w: NodeWords, t: usize) -> bool
     t <= w.b
 }
 
-// The longest bound whose minutes are counted.
-const LONGEST: u32 = 255;
-
 // The fault of row 14, of row 15, or of row 63, as the number says.
 fn offending(row: u32, w: NodeWords, t: usize) -> bool
     ensures { λ r. ⌜ r ≡ offends row t w ⌝ }
@@ -93,7 +101,7 @@ fn offending(row: u32, w: NodeWords, t: usize) -> bool
     if row == outcome::NOT_LOWER {
         return is_not_lower(w, t);
     }
-    LONGEST < w.c
+    rule::LONGEST < w.c
 }
 
 // Row 14, 15 or 63: the lowest node with its fault.
@@ -151,4 +159,31 @@ pub fn bound_refusal(rule: &[u8]) -> Outcome
 {
     let k = rule::node_count(rule);
     node_refusal(outcome::LONG_BOUND, rule, k)
+}
+
+// Whether a node of a rule that passes rows 10 to 16 has an exact bound.
+fn has_exact(rule: &[u8]) -> bool
+    requires { ⌜ ruleRefusal (now rule) .number ≡ 0 ⌝ }
+    ensures { λ r. ⌜ r ≡ hasExact (now (rule .entry)) ⌝ }
+{
+    let k = rule::node_count(rule);
+    let mut t = 0;
+    while t < k {
+        if rule::node_at(rule, t).kind == rule::EXACTLY {
+            return true;
+        }
+        t += 1;
+    }
+    false
+}
+
+// Whether minutes are counted: of every until, or of the exact ones that a rule has which passes rows 10 to 16.
+pub fn minutely(counting: bool, rule: &[u8]) -> bool
+    requires { ⌜ ruleRefusal (now rule) .number ≡ 0 ⌝ }
+    ensures { λ r. ⌜ r ≡ minutely counting (now (rule .entry)) ⌝ }
+{
+    if counting {
+        return true;
+    }
+    has_exact(rule)
 }

@@ -12,12 +12,13 @@ use Rattle.base.proofs.Truth.{and-iff, cond-elim}
 use Rattle.tctl.specs.Kind.{Runs}
 use Rattle.tctl.specs.Formula.{Formula}
 use Rattle.rule_grammar.specs.Grammar.{fault}
-use Rattle.rule_grammar.specs.Machine.{Sign, less, more, Join, conj, disj}
+use Rattle.rule_grammar.specs.Machine.{Sign, less, more, equal, Join, conj, disj}
 use Rattle.rule_grammar.specs.Machine.{until, Opening, pair, timed, Context, opened, joined}
 use Rattle.rule_grammar.specs.Machine.{start, ended, spaced, awaited, compared, equalled, linked, State, at, step, done}
 use Rattle.rule_grammar.specs.Machine.{after, further as further-step, from, mostOf}
 use Rattle.decimal.specs.Value.{isDigit as digit}
 use Rattle.decimal.proofs.DigitRange.{digit-true}
+use Rattle.rule_grammar.proofs.Signs.{most-range}
 use Rattle.rule_grammar.proofs.Complete.{digit-no-space}
 use Rattle.rule_grammar.proofs.From.{from-step, from-halt}
 use Rattle.rule_bytes.specs.JoinNode.{numberOf}
@@ -27,15 +28,6 @@ use Rattle.rule_tokens.specs.Sign.{Signed, joins, unsigned, spaceFrom}
 use Rattle.rule_tokens.specs.Sign.{limitFrom, equalFrom, boundFrom, signFrom, signOf}
 use Rattle.rule_numbers.proofs.Byte.{Span, inside-at, byte-not, byte-step, digit-not}
 use Rattle.rule_numbers.proofs.NumberLaw.{further-grown}
-
--- c may have one digit
-nine-most : (g : Sign) (n : ℕ) → n ≤ 9 → n ≤ mostOf g
-nine-most less n h = omega (arith, h)
-nine-most more n h = omega (arith, h)
-
-most-small : (g : Sign) (n : ℕ) → n ≤ mostOf g → n < 65536
-most-small less n h = omega (arith, h)
-most-small more n h = omega (arith, h)
 
 module _ (s : List ℕ) (K : List Context) (f : Formula) (o : Opening) where
   abbrev operand : State
@@ -67,7 +59,7 @@ module _ (s : List ℕ) (K : List Context) (f : Formula) (o : Opening) where
         (e ∙ byte-step s k 32 (at (linked j f) K) (at start (joined j f ∷ K)) b refl))
         (λ b. halts (at (linked j f) K) k l e refl (λ h. rw (byte-not s k 32 b h) (n h)))
 
-    -- behind "U<=" or "U>=": a number, and no digit that it may have behind it
+    -- behind "U<=", "U>=" or "U==": a number, and no digit that it may have behind it
     limit-law :
         (q : Runs) (g : Sign) (k : ℕ) → i + 2 ≤ k → k ≤ length s → from s i operand ≡ from s k (at (equalled q g f) K) →
         Joins i (limitFrom q g s k)
@@ -80,20 +72,20 @@ module _ (s : List ℕ) (K : List Context) (f : Formula) (o : Opening) where
             let one = and-iff (ltb k (length s)) (digit (getD s k 0)) .0 d .1 in
             let low = digit-true (getD s k 0) one in
             let n = getD s k 0 - 48 in
-            let few : n ≤ mostOf g = nine-most g n (omega (arith, low .low, low .high)) in
+            let few : n ≤ mostOf g = omega (arith, low .low, low .high, most-range g .0) in
             let w =
             further-grown s (λ m. at (linked (until q g m) f) K) (mostOf g)
             (λ m b z. rw (digit-no-space m b (mostOf g) z, z)) n (k + 1) (omega (arith, h)) few in
             let r = further (mostOf g) n (drop (k + 1) s) (k + 1) in
             rw (d, ne-eqb (r .end) k (λ z. let y : ⊥ = omega (arith, w .after, z) in y))
-            (space-law (until q g (r .value)) (r .end) (most-small g (r .value) (w .few)) (omega (arith, p, w .after))
+            (space-law (until q g (r .value)) (r .end) (omega (arith, w .few, most-range g .1)) (omega (arith, p, w .after))
             (w .inside)
             (e ∙ from-step s k (at (equalled q g f) K) h (rw one) ∙ w .same)
             (λ m. rw (w .stops m)))
         turn false d =
             rw (d, eq-eqb k k refl) (halts (at (equalled q g f) K) k l e refl (λ h. rw (digit-not s k d h)))
 
-    -- behind "U<" or "U>"
+    -- behind "U<", "U>" or "U="
     equal-law :
         (q : Runs) (g : Sign) (k : ℕ) → i + 2 ≤ k → k ≤ length s → from s i operand ≡ from s k (at (compared q g f) K) →
         Joins i (equalFrom q g s k)
@@ -119,7 +111,12 @@ module _ (s : List ℕ) (K : List Context) (f : Formula) (o : Opening) where
         (λ b.
         equal-law q more (k + 1) (omega (arith, p)) (omega (arith, inside-at s k 62 b))
         (e ∙ byte-step s k 62 (at (awaited q f) K) (at (compared q more f) K) b refl)) λ b₂.
-        halts (at (awaited q f) K) k l e refl (λ h. rw (byte-not s k 60 b₁ h, byte-not s k 62 b₂ h))
+        cond-elim (Joins i) (byteIs s k 61)
+        (λ b.
+        equal-law q equal (k + 1) (omega (arith, p)) (omega (arith, inside-at s k 61 b))
+        (e ∙ byte-step s k 61 (at (awaited q f) K) (at (compared q equal f) K) b refl)) λ b₃.
+        halts (at (awaited q f) K) k l e refl
+        (λ h. rw (byte-not s k 60 b₁ h, byte-not s k 62 b₂ h, byte-not s k 61 b₃ h))
 
 -- behind the space before the sign
 from-law :

@@ -4,7 +4,7 @@ use mathlib.Core.List.{List}
 use Prim.Native.Nat.{ℕ, _+_}
 use lib.Dec.{eqb}
 use Rattle.tctl.specs.Kind.{Runs}
-use Rattle.rule_grammar.specs.Machine.{Sign, less, more, Join, conj, disj, until, Opening, pair, timed, mostOf}
+use Rattle.rule_grammar.specs.Machine.{Sign, less, more, equal, Join, conj, disj, until, Opening, pair, timed, mostOf}
 use Rattle.rule_bytes.specs.JoinNode.{numberOf}
 use Rattle.rule_numbers.specs.declared.Number.{Number}
 use Rattle.rule_tokens.specs.declared.Token.{Token}
@@ -22,14 +22,14 @@ pub data Signed : Type 0 where
 abbrev pub spaceFrom : Join → List ℕ → ℕ → Signed
 spaceFrom j t i = cond (byteIs t i 32) (joins j (i + 1)) (unsigned i)
 
--- behind "U<=" or "U>="
+-- behind "U<=", "U>=" or "U=="
 abbrev pub limitOf : Runs → Sign → List ℕ → ℕ → Number → Signed
 limitOf q s t i n = cond (eqb (n .end) i) (unsigned i) (spaceFrom (until q s (n .value)) t (n .end))
 
 abbrev pub limitFrom : Runs → Sign → List ℕ → ℕ → Signed
 limitFrom q s t i = limitOf q s t i (numberFrom (mostOf s) t i)
 
--- behind "U<" or "U>"
+-- behind "U<", "U>" or "U="
 abbrev pub equalFrom : Runs → Sign → List ℕ → ℕ → Signed
 equalFrom q s t i = cond (byteIs t i 61) (limitFrom q s t (i + 1)) (unsigned i)
 
@@ -37,8 +37,9 @@ equalFrom q s t i = cond (byteIs t i 61) (limitFrom q s t (i + 1)) (unsigned i)
 abbrev pub boundFrom : Runs → List ℕ → ℕ → Signed
 boundFrom q t i =
     cond (byteIs t i 60) (equalFrom q less t (i + 1)) (
-    cond (byteIs t i 62) (equalFrom q more t (i + 1))
-    (unsigned i))
+    cond (byteIs t i 62) (equalFrom q more t (i + 1)) (
+    cond (byteIs t i 61) (equalFrom q equal t (i + 1))
+    (unsigned i)))
 
 -- behind the space before the sign
 abbrev pub signFrom : Opening → List ℕ → ℕ → Signed

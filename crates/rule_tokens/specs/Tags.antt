@@ -3,7 +3,7 @@
 use mathlib.Core.Path.{_≡_}
 use Prim.Native.Nat.{ℕ, _+_, _*_}
 use Rattle.tctl.specs.Kind.{Runs, someRun, allRuns}
-use Rattle.rule_grammar.specs.Machine.{Sign, Join, Opening, pair, timed, bound}
+use Rattle.rule_grammar.specs.Machine.{Sign, Join, Opening, pair, timed, bound, mostOf}
 use Rattle.rule_bytes.specs.RuleBytes
 use Rattle.rule_bytes.specs.JoinNode.{operationOf, kindOf, numberOf}
 
@@ -27,10 +27,12 @@ pub record OfRuns (tag : ℕ) : Type 0 where
   pub runs : Runs
   pub same : tag ≡ openTag (timed runs)
 
-pub record OfUntil (tag : ℕ) : Type 0 where
+-- with the most that its c may be
+pub record OfUntil (tag most : ℕ) : Type 0 where
   pub runs : Runs
   pub sign : Sign
   pub same : tag ≡ untilTag runs sign
+  pub same-most : most ≡ mostOf sign
 
 pub record OfJoin (tag number : ℕ) : Type 0 where
   pub join : Join

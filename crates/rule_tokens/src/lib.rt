@@ -3,7 +3,7 @@ ghost use mathlib.Core.Path.{_≡_};
 ghost use Prim.Native.Nat.{_≤_};
 ghost use lib.ListN.{length};
 ghost use Rattle.tctl.specs.Kind.{Runs};
-ghost use Rattle.rule_grammar.specs.Machine.{Join, Opening, Sign, pair, timed};
+ghost use Rattle.rule_grammar.specs.Machine.{Join, Opening, Sign, pair, timed, mostOf};
 ghost use Rattle.rule_bytes.specs.JoinNode.{numberOf};
 ghost use Rattle.rule_tokens.specs.Tags.{openTag, untilTag, joinTag, OfOpening, OfRuns, OfUntil, OfJoin};
 ghost use Rattle.rule_tokens.specs.Start.{token, startToken, trueFrom, labelFrom, bracketFrom, startOf};
@@ -17,6 +17,9 @@ pub const PAIR: u8 = 3;
 
 // Behind a sign a tag is 8 times the operation, and the kind of its bound.
 pub const JOINED: u8 = 8;
+
+// The most that c may be behind <= and >=.
+const MOST: u32 = 65535;
 
 // What stands at a place, its number, and where it ends. Where there is none, it ends at the byte that none goes on from.
 pub struct Token {
@@ -119,14 +122,14 @@ fn space_from(text: &[u8], i: usize, tag: u8, number: u32) -> Token
     none(i)
 }
 
-// "=" and the number behind < or >.
-fn equal_from(text: &[u8], i: usize, tag: u8) -> Token
-    requires { ⌜ (i ≤ length (now text)) × OfUntil tag ⌝ }
-    ensures { λ r. ⌜ ((q : Runs) (s : Sign) → tag ≡ untilTag q s →
+// "=" and the number behind <, > or =.
+fn equal_from(text: &[u8], i: usize, tag: u8, most: u32) -> Token
+    requires { ⌜ (i ≤ length (now text)) × OfUntil tag most ⌝ }
+    ensures { λ r. ⌜ ((q : Runs) (s : Sign) → tag ≡ untilTag q s → most ≡ mostOf s →
         r ≡ signToken (equalFrom q s (now (text .entry)) i)) ⌝ }
 {
     if rule_numbers::stands(text, i, b'=') {
-        let number = rule_numbers::number_from(text, 65535, i + 1);
+        let number = rule_numbers::number_from(text, most, i + 1);
         if number.end == i + 1 {
             return none(i + 1);
         }
@@ -141,10 +144,13 @@ fn bound_from(text: &[u8], i: usize, opening: u8) -> Token
     ensures { λ r. ⌜ ((q : Runs) → opening ≡ openTag (timed q) → r ≡ signToken (boundFrom q (now (text .entry)) i)) ⌝ }
 {
     if rule_numbers::stands(text, i, b'<') {
-        return equal_from(text, i + 1, JOINED * opening + rule::AT_MOST);
+        return equal_from(text, i + 1, JOINED * opening + rule::AT_MOST, MOST);
     }
     if rule_numbers::stands(text, i, b'>') {
-        return equal_from(text, i + 1, JOINED * opening + rule::AT_LEAST);
+        return equal_from(text, i + 1, JOINED * opening + rule::AT_LEAST, MOST);
+    }
+    if rule_numbers::stands(text, i, b'=') {
+        return equal_from(text, i + 1, JOINED * opening + rule::EXACTLY, rule::LONGEST);
     }
     none(i)
 }

@@ -1,4 +1,5 @@
-pub mod Tight
-pub mod Walk
 pub mod RunBytes
 pub mod Rest
+pub mod Led
+pub mod Tight
+pub mod Walk

@@ -3,9 +3,7 @@ use mathlib.Core.Path.{_≡_, refl, sym, subst, ap, _∙_}
 use mathlib.Core.Bool.{Bool, true, false, _&&_, false≢true}
 use mathlib.Core.List.{List}
 use mathlib.Core.Option.{Option, none, some}
-use Prim.Native.Nat.{ℕ, _+_, _≤_, _<_}
-use native.Mathlib.Omega.{arith}
-use native.Mathlib.Decide.{decLt}
+use Prim.Native.Nat.{ℕ, _+_, _<_}
 use lib.Dec.{eqb}
 use borrow.Author.Tests.{eq-eqb, ne-eqb}
 use Rattle.outcome.specs.Refusal.{lowest}
@@ -13,10 +11,10 @@ use Rattle.outcome.proofs.Lowest.{Least, none-below, lowest-some, lowest-none, 
 use Rattle.model.specs.Engine.{num}
 use Rattle.chart.specs.declared.ArrowWords.{ArrowWords}
 use Rattle.chart.specs.Bytes.{arrowCount, arrowWords, arrowOf}
+use Rattle.shown.specs.Exact.{orNumber}
 use Rattle.step_numbers.specs.declared.Measure.{Measure}
 use Rattle.step_numbers.specs.Stored.{weightOf, settledOf}
-use Rattle.arrow_links.specs.Linked.{Lowest}
-use Rattle.run_walk.specs.Walk.{isTight, orZero, tightArrow}
+use Rattle.run_walk.specs.Walk.{isTight, tightArrow}
 
 module _ (measure : Measure) (chart : List ℕ) (n : ℕ) (table : List ℕ) (at s : ℕ) where
   abbrev tight : ℕ → Bool
@@ -54,33 +52,19 @@ module _ (measure : Measure) (chart : List ℕ) (n : ℕ) (table : List ℕ) (at
     unfolding tightArrow
     tight-found e f o l under =
         let here : tight i ≡ true = told (rw (eq-eqb (w .start) s e) (eq-eqb (madeBy w) _ (makes w f ∙ o))) in
-        ap (orZero measure chart n table)
+        ap (orNumber 0)
         (sym (lowest-some tight (record { inside = l; offends = here; under = under })))
 
-  -- where the links lead: arrow i leaves s, if it is one, and no arrow below it passes
-  pub record Led (m i : ℕ) : Type 0 where
-    pub leaves : i < m → arrowWords chart i .start ≡ s
-    pub under : (j : ℕ) → j < i → isTight measure chart n table at s j ≡ false
-
-  -- None passes below `low`, and none from there to the lowest that leaves s: those leave other states.
-  pub led :
-      {m low i : ℕ} → Lowest chart m s low i → ((j : ℕ) → j < low → isTight measure chart n table at s j ≡ false) →
-      Led m i
-  led {m} {low} {i} w h =
-      record { leaves = w .leaves; under = λ j l. turn j l (decLt j low) }
-    where
-      other : (j : ℕ) → low ≤ j → j < i → ¬ (arrowWords chart j .start ≡ s)
-      other j u l e = omega (arith, w .under j u (omega (arith, w .most)) e)
-
-      turn : (j : ℕ) → j < i → Dec (j < low) → tight j ≡ false
-      turn j l (yes u) = h j u
-      turn j l (no u) = rw (ne-eqb (arrowWords chart j .start) s (other j (omega arith) l))
+  -- an arrow from elsewhere does not pass
+  pub tight-others :
+      (j : ℕ) → ¬ (arrowWords chart j .start ≡ s) → isTight measure chart n table at s j ≡ false
+  tight-others j e = rw (ne-eqb (arrowWords chart j .start) s e)
 
   pub tight-none :
       ((i : ℕ) → i < arrowCount chart → isTight measure chart n table at s i ≡ false) →
       0 ≡ tightArrow measure chart n table at s
   unfolding tightArrow
-  tight-none h = ap (orZero measure chart n table) (sym (lowest-none tight (arrowCount chart) h))
+  tight-none h = ap (orNumber 0) (sym (lowest-none tight (arrowCount chart) h))
 
   -- if an arrow passes, the one that is taken is the lowest that does: there is one, so it is no 0 for none
   pub tight-least :
@@ -91,6 +75,6 @@ module _ (measure : Measure) (chart : List ℕ) (n : ℕ) (table : List ℕ) (at
     where
       turn :
           (o : Option ℕ) → lowest tight (arrowCount chart) ≡ o →
-          Least tight (arrowCount chart) (orZero measure chart n table o)
+          Least tight (arrowCount chart) (orNumber 0 o)
       turn none h = absurd (false≢true (sym (none-below tight (arrowCount chart) h i l) ∙ e))
       turn (some j) h = some-lowest tight (arrowCount chart) j h

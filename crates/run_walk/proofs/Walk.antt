@@ -1,7 +1,7 @@
 -- The walk down the lent table is the walk down the table by steps, where that has a measure.
 use mathlib.Core.Path.{_≡_, refl, sym, ap, ap₂, _∙_}
 use mathlib.Core.Bool.{Bool, true, false, _&&_}
-use mathlib.Core.List.{List, _∷_}
+use mathlib.Core.List.{List, [], _∷_}
 use Prim.Native.Nat.{ℕ, zero, suc, _+_, _*_, _≤_, _<_}
 use native.Mathlib.Omega.{arith}
 use native.Mathlib.Nat.{suc-mul}
@@ -11,6 +11,7 @@ use borrow.Author.Tests.{eqb-true}
 use Rattle.base.proofs.Truth.{and-iff}
 use Rattle.tctl.specs.Chart.{Arrow}
 use Rattle.model.specs.Engine.{num}
+use Rattle.chart.specs.declared.ArrowWords.{ArrowWords}
 use Rattle.chart.specs.Bytes.{arrowCount, arrowWords, arrowOf, chartOf}
 use Rattle.chart.specs.Shape.{Passed}
 use Rattle.chart.proofs.Chart.{arrow-mem, arrow-of}
@@ -38,6 +39,25 @@ pub walk-on-length :
 unfolding walkOn
 walk-on-length measure chart n table zero s = refl
 walk-on-length measure chart n table (suc k) s = ap suc (walk-on-length measure chart n table k _)
+
+-- the walk's first position, by the arrow that is read
+pub walk-first :
+    (measure : Measure) (chart : List ℕ) (n : ℕ) (table : List ℕ) (s : ℕ) {left k i d : ℕ} {a : ArrowWords} →
+    left ≡ suc k → i ≡ tightArrow measure chart n table (k * n) s → a ≡ arrowWords chart i →
+    d ≡ pickOf measure (arrowOf a) →
+    walkOn measure chart n table left s ≡ place s d ∷ walkOn measure chart n table k (a .end)
+unfolding walkOn
+walk-first measure chart n table s {left} {k} {i} {d} {a} e f g t =
+    ap (λ x. walkOn measure chart n table x s) e ∙
+    ap (λ w. place s (pickOf measure (arrowOf w)) ∷ walkOn measure chart n table k (w .end))
+    (sym (g ∙ ap (arrowWords chart) f)) ∙
+    ap (λ d. place s d ∷ walkOn measure chart n table k (a .end)) (sym t)
+
+pub walk-last :
+    (measure : Measure) (chart : List ℕ) (n : ℕ) (table : List ℕ) (s : ℕ) {left : ℕ} → left ≡ 0 →
+    walkOn measure chart n table left s ≡ place s 0 ∷ []
+unfolding walkOn
+walk-last measure chart n table s e = ap (λ x. walkOn measure chart n table x s) e
 
 -- from 0 nothing is made
 worth-some : (measure : Measure) (a : Arrow) (v : ℕ) → 1 ≤ worthOf measure a v → 1 ≤ v

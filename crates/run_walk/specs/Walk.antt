@@ -1,7 +1,6 @@
 -- The walk down a table of lent numbers: row k lies at k × n.
 use mathlib.Core.Bool.{Bool, _&&_}
 use mathlib.Core.List.{List, [], _∷_}
-use mathlib.Core.Option.{Option, none, some}
 use Prim.Native.Nat.{ℕ, zero, suc, _+_, _*_, _≤_, _<_}
 use lib.ListN.{length}
 use lib.Dec.{eqb}
@@ -10,6 +9,7 @@ use Rattle.model.specs.Engine.{num}
 use Rattle.chart.specs.Bytes.{arrowCount, arrowWords, arrowOf}
 use Rattle.chart.specs.Shape.{Passed}
 use Rattle.shown.specs.Shown.{Position, place}
+use Rattle.shown.specs.Exact.{orNumber}
 use Rattle.step_numbers.specs.declared.Measure.{Measure}
 use Rattle.step_numbers.specs.Target.{highest, pickOf, Capped}
 use Rattle.step_numbers.specs.Stored.{live, weightOf, settledOf}
@@ -22,14 +22,9 @@ module _ (measure : Measure) (chart : List ℕ) (n : ℕ) (table : List ℕ) whe
       eqb (a .start) s &&
       eqb (settledOf measure (num table (at + a .end) + weightOf measure a)) (num table (at + n + s))
 
-  -- the number found, or 0
-  abbrev pub orZero : Option ℕ → ℕ
-  orZero none = 0
-  orZero (some i) = i
-
-  -- the lowest such arrow's number
+  -- the lowest such arrow's number, or 0
   unfoldable pub tightArrow : ℕ → ℕ → ℕ
-  tightArrow at s = orZero (lowest (isTight at s) (arrowCount chart))
+  tightArrow at s = orNumber 0 (lowest (isTight at s) (arrowCount chart))
 
   -- k steps from s, each by the lowest such arrow
   unfoldable pub walkOn : ℕ → ℕ → List Position

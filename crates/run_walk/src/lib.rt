@@ -43,7 +43,7 @@ fn pick(measure: Measure, a: ArrowWords) -> u32
 }
 
 // One position: the state in two bytes, the duration in four.
-fn put_position(state: usize, duration: u32, at: usize, out: &mut [u8]) -> usize
+pub fn put_position(state: usize, duration: u32, at: usize, out: &mut [u8]) -> usize
     requires { ⌜ (state < 65536) × Room at (positionBytes (place state duration)) (now out) ⌝ }
     ensures { λ r. ⌜ Appended at (positionBytes (place state duration)) r (now (out .entry)) (now (out .exit)) ⌝ }
 {

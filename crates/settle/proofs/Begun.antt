@@ -1,5 +1,5 @@
 -- Node t was read: what the calls for its operands and for its own row ask, and what they leave.
-use mathlib.Core.Path.{_≡_, ap, subst, _∙_}
+use mathlib.Core.Path.{_≡_, ap, subst}
 use mathlib.Core.Bool.{Bool}
 use mathlib.Core.List.{List}
 use Prim.Native.Nat.{ℕ, _≤_, _<_}
@@ -9,6 +9,7 @@ use Rattle.model.proofs.Marks.{row-below}
 use Rattle.model.specs.Decide.{holds}
 use Rattle.chart.specs.Bytes.{chartOf}
 use Rattle.rule.specs.Bytes.{nodeWords}
+use Rattle.rule.specs.Refusals.{minutely}
 use Rattle.rule.specs.Formula.{formulaAt}
 use Rattle.rule.specs.declared.NodeWords.{NodeWords}
 use Rattle.rule.proofs.Accepted.{AcceptedRule, accepted}
@@ -26,7 +27,7 @@ pub record Begun
     (t : ℕ)
     (w : NodeWords)
     (marks numbers : List ℕ) : Type 0 where
-  pub lent : Workable counting chart n m t marks numbers
+  pub lent : Workable counting (minutely counting rule) chart n m t marks numbers
   pub asked : AcceptedNode counting rule t
   pub node : read.ReadNode rule t w
 
@@ -41,12 +42,12 @@ module _ {counting : Bool} {chart : List ℕ} {n m : ℕ} {rule : List ℕ} {t :
   -- a lower node, on marks and numbers as long as those lent
   pub operand-asks :
       {u : ℕ} {mid vs : List ℕ} → u < t → length mid ≡ length marks → length vs ≡ length numbers →
-      Workable counting chart n m u mid vs × AcceptedNode counting rule u
+      Workable counting (minutely counting rule) chart n m u mid vs × AcceptedNode counting rule u
   operand-asks h e f = (
     record {
       passed = b .lent .passed;
       table = omega (arith, row-below n h, b .lent .table);
-      size = f ∙ b .lent .size;
+      room = omega (arith, f, b .lent .room);
       accepted = b .lent .accepted;
     },
     record { unrefused = b .node .accepted; inside = omega (arith, b .node .low); short = b .asked .short },
@@ -76,13 +77,13 @@ module _ {counting : Bool} {chart : List ℕ} {n m : ℕ} {rule : List ℕ} {t :
   module _ {mid : List ℕ} (x : Below chart n rule t marks mid) where
     pub own-asks :
         {vs : List ℕ} → length vs ≡ length numbers →
-        (Workable counting chart n m t mid vs × AcceptedNode counting rule t) × OperandsRight chart n rule t mid
+        (Workable counting (minutely counting rule) chart n m t mid vs × AcceptedNode counting rule t) × OperandsRight chart n rule t mid
     own-asks f = (
       (
         record {
           passed = b .lent .passed;
           table = omega (arith, b .lent .table, x .size);
-          size = f ∙ b .lent .size;
+          room = omega (arith, f, b .lent .room);
           accepted = b .lent .accepted;
         },
         b .asked,

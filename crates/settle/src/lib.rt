@@ -1,5 +1,6 @@
 // Settling a node of a rule's tree: its operands first, whose numbers are lower, then its own row of marks; untils by the
 // first engine, or minute by minute.
+ghost use Rattle.rule.specs.Refusals.{minutely};
 ghost use Rattle.nodes.specs.Right.{Workable, AcceptedNode};
 ghost use Rattle.settle.specs.Settled.{Settled};
 
@@ -13,7 +14,8 @@ pub fn settle(
     marks: &mut [u8],
     numbers: &mut [u32],
 )
-    requires { ⌜ Workable counting (now chart) n m t (now marks) (now numbers) × AcceptedNode counting (now rule) t ⌝ }
+    requires { ⌜ Workable counting (minutely counting (now rule)) (now chart) n m t (now marks) (now numbers) ×
+        AcceptedNode counting (now rule) t ⌝ }
     ensures { λ _. ⌜ Settled (now (chart .entry)) n (now (rule .entry)) t (now (marks .entry)) (now (marks .exit)) ⌝ }
 {
     let node = rule::node_at(rule, t);

@@ -9,7 +9,7 @@ use native.Mathlib.Omega.{arith}
 use lib.Dec.{eqb}
 use borrow.Author.Tests.{eqb-true}
 use Rattle.tctl.specs.Chart.{Chart}
-use Rattle.tctl.specs.Formula.{Formula, atMost, atLeast, allUntil}
+use Rattle.tctl.specs.Formula.{Formula, atMost, atLeast, exactly, allUntil}
 use Rattle.model.specs.Decide.{holds}
 use Rattle.rule.specs.declared.NodeWords.{NodeWords}
 use Rattle.rule.specs.Formula.{operation, formulaAt}
@@ -26,10 +26,12 @@ module _ (G : Chart) (s : ℕ) (kind a b c : ℕ) (at : ℕ → Formula) where
 
   -- an A-until, by the kind of its bound
   by-kind :
-      (most : Bool) → let f = allUntil (cond most (atMost c) (atLeast c)) (at a) (at b) in
+      (most least : Bool) →
+      let f = allUntil (cond most (atMost c) (cond least (atLeast c) (exactly c))) (at a) (at b) in
       cond most (neg (holds G f s)) false ≡ showable G f s
-  by-kind true = refl
-  by-kind false = refl
+  by-kind true least = refl
+  by-kind false true = refl
+  by-kind false false = refl
 
   -- operation by operation
   by-operation : (op : ℕ) → op ≤ 6 → shownBy (words op) (holds G (formula op) s) ≡ showable G (formula op) s
@@ -39,7 +41,7 @@ module _ (G : Chart) (s : ℕ) (kind a b c : ℕ) (at : ℕ → Formula) where
   by-operation (suc (suc (suc zero))) l = refl
   by-operation (suc (suc (suc (suc zero)))) l = refl
   by-operation (suc (suc (suc (suc (suc zero))))) l = refl
-  by-operation (suc (suc (suc (suc (suc (suc zero)))))) l = by-kind (eqb kind 1)
+  by-operation (suc (suc (suc (suc (suc (suc zero)))))) l = by-kind (eqb kind 1) (eqb kind 2)
   by-operation (suc (suc (suc (suc (suc (suc (suc op))))))) l = absurd (let z : ⊥ = omega arith in z)
 
 module _ (G : Chart) {rule : List ℕ} {t : ℕ} {w : NodeWords} (node : ReadNode rule t w) (s : ℕ) where

@@ -1,1 +1,4 @@
 pub mod Found
+pub mod BySteps
+pub mod ByMinutes
+pub mod Rows

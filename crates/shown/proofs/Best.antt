@@ -71,6 +71,14 @@ first-elim P g (a ∷ arrows) f h =
     let rest = first-elim P g arrows (λ b m. f b (List·Memᴰ·tail m)) h in
     cond-elim P (g a) (λ e. f a (List·Memᴰ·head refl)) (λ e. rest)
 
+pub first-same :
+    (f g : Arrow → Bool) (arrows : List Arrow) → ((a : Arrow) → List·Memᴰ a arrows → f a ≡ g a) →
+    firstArrow f arrows ≡ firstArrow g arrows
+unfolding firstArrow
+first-same f g [] h = refl
+first-same f g (a ∷ arrows) h =
+    ap₂ (λ b rest. cond b a rest) (h a (List·Memᴰ·head refl)) (first-same f g arrows (λ b m. h b (List·Memᴰ·tail m)))
+
 -- if an arrow of the list passes, the firstArrow that passes is one of the list
 pub first-found :
     (g : Arrow → Bool) (arrows : List Arrow) {a : Arrow} → List·Memᴰ a arrows → g a ≡ true →

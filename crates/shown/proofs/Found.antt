@@ -10,25 +10,19 @@ use lib.ListN.{length}
 use borrow.Author.Tests.{leb-true, le-leb}
 use Rattle.base.specs.Yes.{Yes}
 use Rattle.tctl.specs.Chart.{Chart, states}
-use Rattle.tctl.specs.Formula.{Bound}
+use Rattle.tctl.specs.Formula.{Bound, atMost, atLeast, exactly}
 use Rattle.tctl.proofs.Drawn.{Drawn}
 use Rattle.tctl.proofs.AllAtMost.{Waits}
 use Rattle.model.proofs.Waiting.{waiting-iff}
 use Rattle.shown.specs.Shown.{Position, place, Over}
-use Rattle.shown.specs.Steps.{Quest, someQuest, allQuest, byStep, enough, walk}
+use Rattle.shown.specs.Steps.{Quest, allQuest, byStep, enough, walk}
+use Rattle.shown.specs.Search.{enoughBy, walkBy, someSearch}
 use Rattle.shown.proofs.Along.{Along, ends, goes, along-some, along-map, along-same}
 use Rattle.shown.proofs.Reasons.{SomeAlong, AllAlong}
 use Rattle.shown.proofs.Table.{walk-length}
 use Rattle.shown.proofs.Lawful.{Lawful, along-good, good-walk}
-use Rattle.shown.proofs.Quests.{
-  some-lawful,
-  some-go,
-  some-last,
-  some-need,
-  all-lawful,
-  all-last,
-  all-need,
-}
+use Rattle.shown.proofs.Quests.{SomeQuest, soon, long, all-lawful, all-last, all-need}
+use Rattle.shown.proofs.Exact.{exact-walk, exact-finds}
 use Rattle.shown.proofs.Shortest.{Finds, finds-same, first-fewest}
 
 -- ── A lawful quest ──
@@ -63,23 +57,34 @@ module _
 
 -- ── E-untils ──
 
-module _ {G : Chart} (dr : Drawn G) (b : Bound) (p q : ℕ → Bool) {s : ℕ} (low : s < states G) where
-  some-ways :
-      (shown : List Position) →
-      Ways (some-lawful p q dr b) (some-need p q b) s shown ↔ SomeAlong G (Yes p) (Yes q) b s shown
-  some-ways shown = along-same dr (λ m x l. some-go p q b x) (λ m x l. some-last p q b m x) low
+module _ {G : Chart} (dr : Drawn G) (p q : ℕ → Bool) {s : ℕ} (low : s < states G) where
+  module _ {b : Bound} {z : Quest} (e : SomeQuest p q G b z) where
+    quest-ways :
+        (shown : List Position) → Ways (e .law) (e .need) s shown ↔ SomeAlong G (Yes p) (Yes q) b s shown
+    quest-ways shown = along-same dr (λ m x l. e .go x) (λ m x l. e .last m x) low
+
+    quest-walk :
+        (k : ℕ) → enough (G .arrows) z s k ≡ true → SomeAlong G (Yes p) (Yes q) b s (walk (G .arrows) z k s)
+    quest-walk k h = quest-ways (walk (G .arrows) z k s) .0 (lawful-walk (e .law) (e .need) s k h)
+
+    quest-finds :
+        Finds (enough (G .arrows) z s) (λ k. walk (G .arrows) z k s) (SomeAlong G (Yes p) (Yes q) b s)
+    quest-finds = finds-same quest-ways (lawful-finds (e .law) (e .need) s)
 
   pub some-walk :
-      (k : ℕ) → enough (G .arrows) (someQuest b p q) s k ≡ true →
-      SomeAlong G (Yes p) (Yes q) b s (walk (G .arrows) (someQuest b p q) k s)
-  some-walk k e =
-      some-ways (walk (G .arrows) (someQuest b p q) k s) .0
-      (lawful-walk (some-lawful p q dr b) (some-need p q b) s k e)
+      (b : Bound) (k : ℕ) → enoughBy (G .arrows) (someSearch b p q) s k ≡ true →
+      SomeAlong G (Yes p) (Yes q) b s (walkBy (G .arrows) (someSearch b p q) k s)
+  some-walk (atMost c) k = quest-walk (soon p q dr c) k
+  some-walk (atLeast c) k = quest-walk (long p q dr c) k
+  some-walk (exactly c) k = exact-walk G p q c k s
 
   pub some-finds :
-      Finds (enough (G .arrows) (someQuest b p q) s) (λ k. walk (G .arrows) (someQuest b p q) k s)
+      (b : Bound) →
+      Finds (enoughBy (G .arrows) (someSearch b p q) s) (λ k. walkBy (G .arrows) (someSearch b p q) k s)
       (SomeAlong G (Yes p) (Yes q) b s)
-  some-finds = finds-same some-ways (lawful-finds (some-lawful p q dr b) (some-need p q b) s)
+  some-finds (atMost c) = quest-finds (soon p q dr c)
+  some-finds (atLeast c) = quest-finds (long p q dr c)
+  some-finds (exactly c) = exact-finds G p q c s
 
 -- ── A-untils, at most c ──
 

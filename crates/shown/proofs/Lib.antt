@@ -1,12 +1,15 @@
 pub mod Best
 pub mod Table
-pub mod Same
 pub mod Along
 pub mod Begins
 pub mod Reasons
 pub mod Lawful
 pub mod Quests
 pub mod Shortest
+pub mod Serves
+pub mod Same
+pub mod Exact
+pub mod Fewest
 pub mod Found
 pub mod Paths
 pub mod Walks

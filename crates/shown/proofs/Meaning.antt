@@ -1,5 +1,5 @@
 -- What can be shown, by the meaning: a reason is there just where the mark, or the missing one, can be shown, and the
--- table finds a shortest one of at most 256 steps, if there is one.
+-- search finds a shortest one of at most 256 steps, if there is one.
 use mathlib.Core.Path.{_≡_}
 use mathlib.Core.Logic.{_↔_, by-cases, Iff·trans, Iff·not, Iff·dec}
 use mathlib.Core.List.{List}
@@ -12,7 +12,7 @@ use lib.ListN.{length}
 use Rattle.base.specs.Yes.{Yes}
 use Rattle.base.proofs.Truth.{yes-dec, not-iff}
 use Rattle.tctl.specs.Chart.{Chart, states}
-use Rattle.tctl.specs.Formula.{Bound, atMost, atLeast, Formula, always, label, not, and, or, someUntil, allUntil}
+use Rattle.tctl.specs.Formula.{Bound, atMost, atLeast, exactly, Formula, always, label, not, and, or, someUntil, allUntil}
 use Rattle.tctl.specs.Accepted.{Accepted}
 use Rattle.tctl.proofs.Drawn.{accepted-drawn}
 use Rattle.tctl.proofs.Lively.{lively}
@@ -24,8 +24,8 @@ use Rattle.model.specs.Decide.{waits, holds}
 use Rattle.model.proofs.Decide.{holds-iff}
 use Rattle.model.proofs.Waiting.{waits-iff}
 use Rattle.shown.specs.Shown.{Position, Reason, Showable, Shortest}
-use Rattle.shown.specs.Steps.{enough, walk, fewestSteps}
-use Rattle.shown.specs.Showable.{showable, questOf}
+use Rattle.shown.specs.Search.{fewestSteps}
+use Rattle.shown.specs.Showable.{showable, enoughOf, walkOf, stepsOf}
 use Rattle.shown.proofs.Begins.{begun, some-met, all-unmet}
 use Rattle.shown.proofs.Reasons.{some-along}
 use Rattle.shown.proofs.Paths.{some-shown, late-shown}
@@ -51,6 +51,7 @@ module _ {G : Chart} (acc : Accepted G) where
       let r = begun acc low (w .shows) in
       λ met. all-unmet w (r .0) (r .1) (met (r .0))
   reason-showable (allUntil (atLeast c) f g) low shown w = w
+  reason-showable (allUntil (exactly c) f g) low shown w = w
 
   -- The run that meets an E-until is shown up to where it does. For an A-until the engine decides whether a path is
   -- late: if one is, it is shown up to where it is over; if none is, every run meets the until.
@@ -78,6 +79,7 @@ module _ {G : Chart} (acc : Accepted G) where
       (met-iff-until r .1
       (met-unless-late (yes-dec (holds G f)) (yes-dec (holds G g)) (omega arith) none r)))))
   showable-reason (allUntil (atLeast c) f g) low w = absurd w
+  showable-reason (allUntil (exactly c) f g) low w = absurd w
 
   pub reason-iff :
       (f : Formula) {s : ℕ} → s < states G → ((shown : List Position) × Reason G f s shown) ↔ Showable G f s
@@ -95,43 +97,40 @@ module _ {G : Chart} (acc : Accepted G) where
       let until = allUntil (atMost c) f g in
       Iff·trans (not-iff (holds G until s)) (Iff·not (holds-iff G acc until s low))
   showable-iff (allUntil (atLeast c) f g) low = (false≢true, absurd)
+  showable-iff (allUntil (exactly c) f g) low = (false≢true, absurd)
 
-  -- ── The table ──
+  -- ── The search ──
 
-  -- for an E-until the entry of k steps and s is enough just where a reason of exactly k steps starts at s
+  -- for an E-until k steps from s are enough just where a reason of exactly k steps starts at s
   pub some-iff :
       (b : Bound) (f g : Formula) {s : ℕ} → s < states G → (k : ℕ) →
-      (enough (G .arrows) (questOf G (someUntil b f g)) s k ≡ true) ↔
+      (enoughOf G (someUntil b f g) s k ≡ true) ↔
       ((shown : List Position) × Reason G (someUntil b f g) s shown × Steps k shown)
   some-iff b f g {s} low k =
-      let z = questOf G (someUntil b f g) in
       let found = reason-finds acc low (someUntil b f g) in
-      let there = walk (G .arrows) z k s in (
+      let there = walkOf G (someUntil b f g) k s in (
         λ e. (
           there,
-          some-answers acc f g low b there .1 (some-walk (accepted-drawn acc) b (holds G f) (holds G g) low k e),
+          some-answers acc f g low b there .1 (some-walk (accepted-drawn acc) (holds G f) (holds G g) low b k e),
           found .size k,
         ),
         λ w. found .counts k (w .0) (w .1) (w .2),
       )
 
-  -- For every formula so is the lowest entry that is enough. A later one of an A-until may be enough by a run that was
+  -- For every formula so is the lowest number that is enough. A later one of an A-until may be enough by a run that was
   -- over before its end.
   pub lowest-entry-iff :
-      (f : Formula) {s : ℕ} → s < states G → (k : ℕ) →
-      ((j : ℕ) → j < k → enough (G .arrows) (questOf G f) s j ≡ false) →
-      (enough (G .arrows) (questOf G f) s k ≡ true) ↔ ((shown : List Position) × Reason G f s shown × Steps k shown)
+      (f : Formula) {s : ℕ} → s < states G → (k : ℕ) → ((j : ℕ) → j < k → enoughOf G f s j ≡ false) →
+      (enoughOf G f s k ≡ true) ↔ ((shown : List Position) × Reason G f s shown × Steps k shown)
   lowest-entry-iff f low = first-enough-iff (reason-finds acc low f)
 
   pub found-shortest :
-      (f : Formula) {s k : ℕ} → s < states G → fewestSteps (G .arrows) (questOf G f) s ≡ some k →
-      Shortest (Reason G f s) (walk (G .arrows) (questOf G f) k s)
+      (f : Formula) {s k : ℕ} → s < states G → stepsOf G f s ≡ some k → Shortest (Reason G f s) (walkOf G f k s)
   unfolding fewestSteps
   found-shortest f {s} {k} low = lowest-shortest (reason-finds acc low f) k
 
   pub none-iff :
       (f : Formula) {s : ℕ} → s < states G →
-      (fewestSteps (G .arrows) (questOf G f) s ≡ none) ↔
-      ((shown : List Position) → Reason G f s shown → ¬ (length shown ≤ 257))
+      (stepsOf G f s ≡ none) ↔ ((shown : List Position) → Reason G f s shown → ¬ (length shown ≤ 257))
   unfolding fewestSteps
   none-iff f low = no-lowest-iff (reason-finds acc low f)

@@ -1,4 +1,4 @@
--- The reasons by the engine's answers for the operands, and the table of a formula that finds them.
+-- The reasons by the engine's answers for the operands, and the search of a formula that finds them.
 use mathlib.Core.Logic.{_↔_, ⊎-map, Iff·rfl, Iff·trans, Iff·symm, Iff·and, Iff·not, Iff·dec}
 use mathlib.Core.List.{List}
 use mathlib.Core.Bool.{false, false≢true}
@@ -6,15 +6,15 @@ use Prim.Native.Nat.{ℕ, _<_}
 use Rattle.base.specs.Yes.{Yes}
 use Rattle.base.proofs.Truth.{yes-dec}
 use Rattle.tctl.specs.Chart.{Chart, states}
-use Rattle.tctl.specs.Formula.{Bound, atMost, atLeast, Formula, always, label, not, and, or, someUntil, allUntil}
+use Rattle.tctl.specs.Formula.{Bound, atMost, atLeast, exactly, Formula, always, label, not, and, or, someUntil, allUntil}
 use Rattle.tctl.specs.Holds.{Holds}
 use Rattle.tctl.specs.Accepted.{Accepted}
 use Rattle.tctl.proofs.Drawn.{Drawn, accepted-drawn}
 use Rattle.model.specs.Decide.{holds}
 use Rattle.model.proofs.Decide.{holds-iff}
 use Rattle.shown.specs.Shown.{Position, SomeReason, AllReason, Reason}
-use Rattle.shown.specs.Steps.{quickest, enough, walk}
-use Rattle.shown.specs.Showable.{questOf}
+use Rattle.shown.specs.Search.{enoughBy, walkBy, vain}
+use Rattle.shown.specs.Showable.{enoughOf, walkOf}
 use Rattle.shown.proofs.Along.{along-same}
 use Rattle.shown.proofs.Reasons.{SomeAlong, some-along, AllAlong, all-along}
 use Rattle.shown.proofs.Shortest.{Finds, finds-same}
@@ -49,30 +49,26 @@ module _ {G : Chart} (acc : Accepted G) (f g : Formula) {s : ℕ} (low : s < sta
       dr : Drawn G
       dr = accepted-drawn acc
 
--- ── The table of a formula ──
+-- ── The search of a formula ──
 
 module _ {G : Chart} (acc : Accepted G) {s : ℕ} (low : s < states G) where
   -- where nothing can be shown: a reason would end where a test that says no says yes
-  nothing-finds :
-      Finds (enough (G .arrows) (quickest 0 (λ x. false) (λ x. false)) s)
-      (λ k. walk (G .arrows) (quickest 0 (λ x. false) (λ x. false)) k s)
-      (λ shown. ⊥)
-  nothing-finds =
+  vain-finds : Finds (enoughBy (G .arrows) vain s) (λ k. walkBy (G .arrows) vain k s) (λ shown. ⊥)
+  vain-finds =
       finds-same (λ shown. (λ r. false≢true (some-along {b = atMost 0} .1 r .there), λ r. absurd r))
-      (some-finds (accepted-drawn acc) (atMost 0) (λ x. false) (λ x. false) low)
+      (some-finds (accepted-drawn acc) (λ x. false) (λ x. false) low (atMost 0))
 
-  pub reason-finds :
-      (f : Formula) →
-      Finds (enough (G .arrows) (questOf G f) s) (λ k. walk (G .arrows) (questOf G f) k s) (Reason G f s)
-  reason-finds always = nothing-finds
-  reason-finds (label i) = nothing-finds
-  reason-finds (not f) = nothing-finds
-  reason-finds (and f g) = nothing-finds
-  reason-finds (or f g) = nothing-finds
+  pub reason-finds : (f : Formula) → Finds (enoughOf G f s) (λ k. walkOf G f k s) (Reason G f s)
+  reason-finds always = vain-finds
+  reason-finds (label i) = vain-finds
+  reason-finds (not f) = vain-finds
+  reason-finds (and f g) = vain-finds
+  reason-finds (or f g) = vain-finds
   reason-finds (someUntil b f g) =
       finds-same (λ shown. Iff·symm (some-answers acc f g low b shown))
-      (some-finds (accepted-drawn acc) b (holds G f) (holds G g) low)
+      (some-finds (accepted-drawn acc) (holds G f) (holds G g) low b)
   reason-finds (allUntil (atMost c) f g) =
       finds-same (λ shown. Iff·symm (all-answers acc f g low c shown))
       (all-finds (accepted-drawn acc) c (holds G f) (holds G g) low)
-  reason-finds (allUntil (atLeast c) f g) = nothing-finds
+  reason-finds (allUntil (atLeast c) f g) = vain-finds
+  reason-finds (allUntil (exactly c) f g) = vain-finds

@@ -12,7 +12,7 @@ use Rattle.tctl.proofs.Drawn.{Drawn}
 use Rattle.model.specs.Engine.{gain}
 use Rattle.model.specs.Decide.{waiting, failing}
 use Rattle.shown.specs.Shown.{Over}
-use Rattle.shown.specs.Steps.{quickest, slowest, longestOf, someQuest, allQuest}
+use Rattle.shown.specs.Steps.{Quest, quickest, slowest, longestOf, lasting, allQuest}
 use Rattle.shown.proofs.Lawful.{Lawful}
 
 -- ── The least minutes ──
@@ -78,37 +78,42 @@ module _ {cap : ℕ} (some : 1 ≤ cap) where
 
 -- ── E-untils ──
 
--- what is good for an E-until
-abbrev pub someGood : Bound → ℕ → ℕ → Type 0
-someGood (atMost c) = Left
-someGood (atLeast c) = Comes (suc c)
-
 module _ (p q : ℕ → Bool) where
-  pub some-lawful : {G : Chart} → Drawn G → (b : Bound) → Lawful G (someQuest b p q) (someGood b)
-  some-lawful dr (atMost c) = quickest-lawful dr c p q
-  some-lawful dr (atLeast c) = slowest-lawful (omega arith) dr p (λ s. cond (q s) 1 0)
+  -- a quest for an E-until goes on where p holds, and at its last state the bound is met and q holds
+  pub record SomeQuest (G : Chart) (b : Bound) (z : Quest) : Type 1 where
+    pub Good : ℕ → ℕ → Type 0
+    pub law : Lawful G z Good
+    pub go : (x : ℕ) → Yes (z .go) x ↔ Yes p x
+    pub last : (m x : ℕ) → Good m (z .base x) ↔ (Meets b m × Yes q x)
+    pub need : (v : ℕ) → (z .need ≤ v) ↔ Good 0 v
 
-  pub some-go : (b : Bound) (x : ℕ) → Yes (someQuest b p q .go) x ↔ Yes p x
-  some-go (atMost c) x = Iff·rfl
-  some-go (atLeast c) x = Iff·rfl
-
-  -- at the last state: the bound is met there, and q holds
-  pub some-last : (b : Bound) (m x : ℕ) → someGood b m (someQuest b p q .base x) ↔ (Meets b m × Yes q x)
-  some-last (atMost c) m x = turn (q x)
+  pub soon : {G : Chart} → Drawn G → (c : ℕ) → SomeQuest G (atMost c) (quickest c p q)
+  soon dr c =
+      record {
+        Good = Left;
+        law = quickest-lawful dr c p q;
+        go = λ x. Iff·rfl;
+        last = λ m x. turn m (q x);
+        need = λ v. Iff·rfl;
+      }
     where
-      turn : (t : Bool) → (m < cond t (suc c) 0) ↔ ((m ≤ c) × (t ≡ true))
-      turn true = (λ h. (omega arith, refl), λ h. omega arith)
-      turn false = (λ h. absurd (let z : ⊥ = omega arith in z), λ h. absurd (false≢true (h .1)))
-  some-last (atLeast c) m x = turn (q x)
-    where
-      turn : (t : Bool) → Comes (suc c) m (cond t 1 0) ↔ ((c ≤ m) × (t ≡ true))
-      turn true = (λ h. (omega arith, refl), λ h. (omega arith, omega arith))
-      turn false = (λ h. absurd (let z : ⊥ = omega arith in z), λ h. absurd (false≢true (h .1)))
+      turn : (m : ℕ) (t : Bool) → (m < cond t (suc c) 0) ↔ ((m ≤ c) × (t ≡ true))
+      turn m true = (λ h. (omega arith, refl), λ h. omega arith)
+      turn m false = (λ h. absurd (let z : ⊥ = omega arith in z), λ h. absurd (false≢true (h .1)))
 
-  -- what is enough is good at the moment 0
-  pub some-need : (b : Bound) (v : ℕ) → (someQuest b p q .need ≤ v) ↔ someGood b 0 v
-  some-need (atMost c) v = Iff·rfl
-  some-need (atLeast c) v = comes-need (omega arith) v
+  pub long : {G : Chart} → Drawn G → (c : ℕ) → SomeQuest G (atLeast c) (lasting c p q)
+  long dr c =
+      record {
+        Good = Comes (suc c);
+        law = slowest-lawful (omega arith) dr p (λ s. cond (q s) 1 0);
+        go = λ x. Iff·rfl;
+        last = λ m x. turn m (q x);
+        need = comes-need (omega arith);
+      }
+    where
+      turn : (m : ℕ) (t : Bool) → Comes (suc c) m (cond t 1 0) ↔ ((c ≤ m) × (t ≡ true))
+      turn m true = (λ h. (omega arith, refl), λ h. (omega arith, omega arith))
+      turn m false = (λ h. absurd (let z : ⊥ = omega arith in z), λ h. absurd (false≢true (h .1)))
 
   -- ── A-untils, at most c ──
 

@@ -1,4 +1,5 @@
--- Shown runs, and when one is a true reason. The quoted words are of 02, paper 1.
+-- Shown runs, and when one is a true reason. The quoted words are of 02, paper 1; of "exactly c" paper 7 says that "runs
+-- shown for E-until cover" it.
 use mathlib.Core.Path.{_≡_}
 use mathlib.Core.Logic.{_⊎_}
 use mathlib.Core.List.{List}
@@ -7,7 +8,8 @@ use lib.ListN.{length, getD}
 use Rattle.base.specs.Sum.{sum}
 use Rattle.tctl.specs.Chart.{Chart}
 use Rattle.tctl.specs.Run.{Step, Run}
-use Rattle.tctl.specs.Formula.{Bound, Meets, atMost, atLeast, Formula, always, label, not, and, or, someUntil, allUntil}
+use Rattle.tctl.specs.Formula.{Bound, Meets, atMost, atLeast, exactly}
+use Rattle.tctl.specs.Formula.{Formula, always, label, not, and, or, someUntil, allUntil}
 use Rattle.tctl.specs.Holds.{Holds}
 
 -- "per position the state (2 bytes) and duration (4)"
@@ -76,6 +78,7 @@ Reason G (or f g) s shown = ⊥
 Reason G (someUntil b f g) s shown = SomeReason G (Holds G f) (Holds G g) b s shown
 Reason G (allUntil (atMost c) f g) s shown = AllReason G (Holds G f) (Holds G g) c s shown
 Reason G (allUntil (atLeast c) f g) s shown = ⊥
+Reason G (allUntil (exactly c) f g) s shown = ⊥
 
 -- "a marked E-until node, or an unmarked A-until node bounded by 'at most'"
 abbrev pub Showable : Chart → Formula → ℕ → Type 0
@@ -87,6 +90,7 @@ Showable G (or f g) s = ⊥
 Showable G (someUntil b f g) s = Holds G (someUntil b f g) s
 Showable G (allUntil (atMost c) f g) s = ¬ Holds G (allUntil (atMost c) f g) s
 Showable G (allUntil (atLeast c) f g) s = ⊥
+Showable G (allUntil (exactly c) f g) s = ⊥
 
 -- the run begins with what is shown: its states up to the last, and the durations of its steps
 pub record Begins {G : Chart} {s : ℕ} (shown : List Position) (r : Run G s) : Type 0 where

@@ -2,12 +2,9 @@
 -- the walk down the table. A worth of 0 says that there is no such way.
 use mathlib.Core.Bool.{Bool, cond, _&&_}
 use mathlib.Core.List.{List, [], _∷_}
-use mathlib.Core.Option.{Option}
 use Prim.Native.Nat.{ℕ, zero, suc, _-_, max}
 use lib.Dec.{leb, eqb}
-use Rattle.outcome.specs.Refusal.{lowest}
 use Rattle.tctl.specs.Chart.{Arrow, Most, upTo, noEnd}
-use Rattle.tctl.specs.Formula.{Bound, atMost, atLeast}
 use Rattle.model.specs.Engine.{gain}
 use Rattle.model.specs.Decide.{waiting, failing}
 use Rattle.shown.specs.Shown.{Position, place}
@@ -48,10 +45,9 @@ slowest cap go base =
       need = cap;
     }
 
--- for an E-until
-abbrev pub someQuest : Bound → (ℕ → Bool) → (ℕ → Bool) → Quest
-someQuest (atMost c) p q = quickest c p q
-someQuest (atLeast c) p q = slowest (suc c) p (λ s. cond (q s) 1 0)
+-- for an E-until, at least c
+abbrev pub lasting : ℕ → (ℕ → Bool) → (ℕ → Bool) → Quest
+lasting c p q = slowest (suc c) p (λ s. cond (q s) 1 0)
 
 -- for an A-until, at most c: it waits, for more than c minutes or until it fails
 abbrev pub allQuest : ℕ → (ℕ → Bool) → (ℕ → Bool) → Quest
@@ -88,7 +84,3 @@ walk arrows z (suc k) s =
 -- k steps from s are enough
 abbrev pub enough : List Arrow → Quest → ℕ → ℕ → Bool
 enough arrows z s k = leb (z .need) (byStep arrows z k s)
-
--- the fewest steps, at most 256, that are enough
-unfoldable pub fewestSteps : List Arrow → Quest → ℕ → Option ℕ
-fewestSteps arrows z s = lowest (enough arrows z s) 257

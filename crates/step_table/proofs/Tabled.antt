@@ -19,7 +19,8 @@ use Rattle.model.specs.Marks.{flag}
 use Rattle.chart.specs.Bytes.{chartOf}
 use Rattle.chart.specs.Shape.{Passed}
 use Rattle.chart.proofs.Reading.{has-states, drawn}
-use Rattle.shown.specs.Steps.{Quest, best, byStep, enough, fewestSteps}
+use Rattle.shown.specs.Steps.{Quest, best, byStep, enough}
+use Rattle.shown.specs.Search.{fewestSteps}
 use Rattle.shown.proofs.Best.{best-same, best-map}
 use Rattle.step_numbers.specs.declared.Measure.{Measure}
 use Rattle.step_numbers.specs.declared.Target.{Target}

@@ -12,7 +12,8 @@ use Rattle.model.specs.Engine.{num}
 use Rattle.model.specs.Marks.{flag}
 use Rattle.chart.specs.Bytes.{arrowCount, arrowWords, arrowOf, chartOf}
 use Rattle.chart.specs.Shape.{Passed}
-use Rattle.shown.specs.Steps.{Quest, best, byStep, fewestSteps}
+use Rattle.shown.specs.Steps.{Quest, best, byStep}
+use Rattle.shown.specs.Search.{bySteps, fewestSteps}
 use Rattle.step_numbers.specs.declared.Measure.{Measure}
 use Rattle.step_numbers.specs.declared.Target.{Target}
 use Rattle.step_numbers.specs.Target.{highest, goOf, baseOf, questFor, Fair}
@@ -97,6 +98,6 @@ atMost256 r = cond (leb r 256) (some r) none
 
 -- r are the fewest steps from s, and the rows up to r are in the table
 pub record Found (target : Target) (chart : List ℕ) (n : ℕ) (p q : List ℕ) (s r : ℕ) (table : List ℕ) : Type 0 where
-  pub answer : fewestSteps (chartOf chart .arrows) (questFor target (flag p) (flag q)) s ≡ atMost256 r
+  pub answer : fewestSteps (chartOf chart .arrows) (bySteps (questFor target (flag p) (flag q))) s ≡ atMost256 r
   pub slots : Slots chart
   pub rows : r ≤ 256 → Tabled (chartOf chart) (target .measure) (questFor target (flag p) (flag q)) n r table

@@ -1,12 +1,16 @@
 -- Drawn charts: arrows join states of the chart, and no slot is empty. An accepted chart is drawn, and so are the
 -- charts that proofs make from it.
 use mathlib.Core.Path.{refl, subst}
-use mathlib.Core.List.{List·Memᴰ}
+use mathlib.Core.List.{List, List·Memᴰ}
 use Prim.Native.Nat.{ℕ, _<_}
 use native.Mathlib.Omega.{arith}
 use Rattle.tctl.specs.Chart.{Chart, Arrow, Within, states}
 use Rattle.tctl.specs.Run.{Step}
 use Rattle.tctl.specs.Accepted.{Accepted}
+
+-- the arrows join states below n
+abbrev pub Joins : ℕ → List Arrow → Type 0
+Joins n arrows = (a : Arrow) → List·Memᴰ a arrows → (a .start < n) × (a .end < n)
 
 pub record Drawn (G : Chart) : Type 0 where
   pub starts : (a : Arrow) → List·Memᴰ a (G .arrows) → a .start < states G

@@ -5,7 +5,8 @@ use mathlib.Core.Bool.{Bool}
 use mathlib.Core.List.{List}
 use Prim.Native.Nat.{ℕ, suc, _<_}
 use native.Mathlib.Omega.{arith}
-use Rattle.model.proofs.Same.{Same, Joins}
+use Rattle.base.proofs.Same.{Same}
+use Rattle.tctl.proofs.Drawn.{Joins}
 use Rattle.chart.specs.Bytes.{arrowCount, arrowWords, chartOf}
 use Rattle.chart.specs.Shape.{Passed}
 use Rattle.chart.proofs.Reading.{counted, arrow-ends, drawn, has-states}

@@ -1,13 +1,13 @@
 -- Row t, written from the rows by minutes over the row beyond, is the until's.
 use mathlib.Core.Path.{_≡_, sym, ap, subst, _∙_}
-use mathlib.Core.Bool.{Bool, true, false}
+use mathlib.Core.Bool.{Bool, true, false, cond}
 use mathlib.Core.Bool.{not as neg}
 use mathlib.Core.List.{List}
-use Prim.Native.Nat.{ℕ}
-use Rattle.tctl.specs.Formula.{Bound, atLeast}
+use Prim.Native.Nat.{ℕ, suc}
+use Rattle.tctl.specs.Formula.{Bound, atMost, atLeast, exactly}
 use Rattle.model.specs.Marks.{mark}
 use Rattle.model.proofs.Marks.{bit-says}
-use Rattle.model.proofs.Same.{Joins}
+use Rattle.tctl.proofs.Drawn.{Joins}
 use Rattle.chart.specs.Bytes.{chartOf}
 use Rattle.rule.specs.declared.NodeWords.{NodeWords}
 use Rattle.fill.specs.Written.{RowWritten}
@@ -18,7 +18,9 @@ use Rattle.minutes.specs.Table.{makes}
 use Rattle.minutes.specs.Untils.{rowOf, taskOf, beyondOf, counted}
 use Rattle.minutes.proofs.Beyond.{makes-beyond}
 use Rattle.minutes.proofs.Same.{task-same, makes-same, counted-same}
-use Rattle.until_minutes.specs.Minutes.{markOf}
+use Rattle.minute_rows.specs.declared.Met.{Met}
+use Rattle.minute_rows.specs.declared.Met.the-variants.{Always, AtEnd}
+use Rattle.until_minutes.specs.Minutes.{makesBy, markOf}
 
 module _ (all : Bool) (chart : List ℕ) (n t : ℕ) (w : NodeWords) (old : List ℕ) where
   -- beyond the bound, by the operands' rows, and what is asked then
@@ -55,6 +57,23 @@ module _ (all : Bool) (chart : List ℕ) (n t : ℕ) (w : NodeWords) (old : List
     from-later x y =
         written-again (written-besides x)
         (written-as y (counted-same joins all (lower-row x (low .left)) (lower-row x (low .right)) b))
+
+  -- At most c, or exactly c: beyond it nobody meets it, and everybody fails it. When it is met does not go by c.
+  pub from-last :
+      Joins n (chartOf chart .arrows) → OperandsBelow t w → (most : Bool) {c : ℕ} {met : Met} → met ≡ cond most Always AtEnd →
+      {count : ℕ} → count ≡ suc c → {mid new : List ℕ} → RowWritten n t (λ s. all) old mid →
+      RowWritten n t (λ s. markOf all (makesBy (record { all = all; met = met }) chart n t w mid count s)) mid new →
+      FromOperands (counted all (cond most (atMost c) (exactly c))) chart n t w old new
+  from-last joins low most {c} {met} m {count} e {mid} {new} x y = turn most (subst Rows m y)
+    where
+      Rows : Met → Type 0
+      Rows v = RowWritten n t (λ s. markOf all (makesBy (record { all = all; met = v }) chart n t w mid count s)) mid new
+
+      turn :
+          (most : Bool) → Rows (cond most Always AtEnd) →
+          FromOperands (counted all (cond most (atMost c) (exactly c))) chart n t w old new
+      turn true z = from-rows joins low (atMost c) e x z
+      turn false z = from-rows joins low (exactly c) e x z
 
   -- at least 0 has no row but the row beyond
   module _ {c : ℕ} (none : c ≡ 0) where

@@ -13,7 +13,7 @@ use Rattle.base.proofs.Truth.{true-or-false}
 use Rattle.tctl.specs.Chart.{Chart}
 use Rattle.model.specs.Engine.{num}
 use Rattle.model.proofs.Marks.{row-below}
-use Rattle.model.proofs.Same.{Same}
+use Rattle.base.proofs.Same.{Same}
 use Rattle.chart.proofs.Reading.{shaped}
 use Rattle.rule.specs.declared.NodeWords.{NodeWords}
 use Rattle.hints.specs.Values.{valueOf}

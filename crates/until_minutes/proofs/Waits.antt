@@ -8,7 +8,8 @@ use lib.ListN.{length}
 use Rattle.tctl.specs.Formula.{atMost}
 use Rattle.model.specs.Marks.{bit, mark}
 use Rattle.model.proofs.Marks.{bit-says}
-use Rattle.model.proofs.Same.{Same, Joins}
+use Rattle.base.proofs.Same.{Same}
+use Rattle.tctl.proofs.Drawn.{Joins}
 use Rattle.chart.specs.Bytes.{chartOf}
 use Rattle.rule.specs.declared.NodeWords.{NodeWords}
 use Rattle.fill.specs.Written.{RowWritten}

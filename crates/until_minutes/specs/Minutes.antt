@@ -5,6 +5,7 @@ use mathlib.Core.Bool.{not as neg}
 use mathlib.Core.List.{List}
 use Prim.Native.Nat.{ℕ, _+_, _*_, _≤_, _<_}
 use lib.ListN.{length, getD}
+use lib.Dec.{eqb}
 use Rattle.model.specs.Marks.{bit, mark}
 use Rattle.chart.specs.Bytes.{arrowCount, chartOf}
 use Rattle.chart.specs.Shape.{Passed}
@@ -17,6 +18,8 @@ use Rattle.minutes.specs.Untils.{taskOf}
 use Rattle.moves.specs.declared.Ends.{Ends}
 use Rattle.moves.specs.Moves.{isOpen, Collected}
 use Rattle.minute_rows.specs.declared.Asked.{Asked}
+use Rattle.minute_rows.specs.declared.Met.{Met}
+use Rattle.minute_rows.specs.declared.Met.the-variants.{Always, AtEnd}
 use Rattle.minute_rows.specs.Numbers.{bare}
 
 -- a chart that passes checks 1 to 9, a table of marks that holds row t, two operands below it, and a number for each
@@ -40,13 +43,17 @@ taskBy asked n t w marks =
 abbrev pub makesBy : Asked → List ℕ → ℕ → ℕ → NodeWords → List ℕ → ℕ → ℕ → Bool
 makesBy asked chart n t w marks r s = makes (chartOf chart .arrows) n (taskBy asked n t w marks) r s
 
+-- when a bound of at most, kind 1, or of exactly is met
+abbrev pub metBy : ℕ → Met
+metBy kind = cond (eqb kind 1) Always AtEnd
+
 -- what the row of an until says: who meets it, or who does not fail it
 abbrev pub markOf : Bool → Bool → Bool
 markOf all made = cond all (neg made) made
 
 -- an until with no bound: to meet it, or with `all` to fail it, while no minute is left
 abbrev pub plainAsked : Bool → Asked
-plainAsked all = record { all = all; met = true }
+plainAsked all = record { all = all; met = Always }
 
 -- it is open at s
 abbrev pub openBy : ℕ → NodeWords → List ℕ → ℕ → Bool

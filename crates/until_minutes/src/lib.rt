@@ -15,14 +15,25 @@ ghost use Rattle.operands.specs.FromOperands.{FromOperands};
 ghost use Rattle.minutes.specs.Untils.{plain, counted};
 ghost use Rattle.moves.specs.Moves.{Collected};
 ghost use Rattle.minute_rows.specs.Filled.{RowsFilled};
-ghost use Rattle.until_minutes.specs.Minutes.{MinutesLent, Says, plainAsked, taskBy, makesBy, markOf, openBy};
+ghost use Rattle.until_minutes.specs.Minutes.{MinutesLent, Says, plainAsked, taskBy, makesBy, metBy, markOf, openBy};
 ghost use Rattle.until_minutes.specs.Minutes.{MarksCollectable, WaitReady, Waited};
 use fill::Connective;
 use minute_rows::Asked;
+use minute_rows::Met;
 use moves::Ends;
 use rule::NodeWords;
 
-// Beyond a bound of at most: nobody meets it, and everybody fails it.
+// When a bound of at most, or of exactly, is met.
+fn met_by(kind: u8) -> Met
+    ensures { λ r. ⌜ r ≡ metBy kind ⌝ }
+{
+    if kind == rule::AT_MOST {
+        return Met::Always;
+    }
+    Met::AtEnd
+}
+
+// Beyond a bound of at most, or of exactly: nobody meets it, and everybody fails it.
 fn begin(all: bool, n: usize, t: usize, marks: &mut [u8])
     requires { ⌜ t * n + n ≤ length (now marks) ⌝ }
     ensures { λ _. ⌜ RowWritten n t (λ s. all) (now (marks .entry)) (now (marks .exit)) ⌝ }
@@ -70,7 +81,10 @@ fn first_row(
     let left = node.a * n;
     let right = node.b * n;
     let at = t * n;
-    let asked = Asked { all, met: true };
+    let asked = Asked {
+        all,
+        met: Met::Always,
+    };
     minute_rows::fill_row(
         asked,
         chart,
@@ -172,7 +186,7 @@ fn fill_rows(
     marks: &[u8],
     numbers: &mut [u32],
 )
-    requires { ⌜ MinutesLent (now chart) n m t node (now marks) (now numbers) × (count ≤ 256) ⌝ }
+    requires { ⌜ MinutesLent (now chart) n m t node (now marks) (now numbers) × (1 ≤ count) × (count ≤ 256) ⌝ }
     ensures { λ _. ⌜ RowsFilled (chartOf (now (chart .entry))) n (taskBy asked n t node (now (marks .entry))) count
         (now (numbers .exit)) ⌝ }
 {
@@ -248,7 +262,10 @@ fn at_least(
         return;
     }
     plain_row(all, chart, n, m, t, node, marks, numbers);
-    let asked = Asked { all, met: false };
+    let asked = Asked {
+        all,
+        met: Met::Never,
+    };
     last_row(asked, node.c as usize, chart, n, m, t, node, marks, numbers);
 }
 
@@ -268,20 +285,21 @@ pub fn until(
         (now (marks .entry)) (now (marks .exit)) ⌝ }
 {
     begin(all, n, t, marks);
-    if node.kind == rule::AT_MOST {
-        let asked = Asked { all, met: true };
-        last_row(
-            asked,
-            node.c as usize + 1,
-            chart,
-            n,
-            m,
-            t,
-            node,
-            marks,
-            numbers,
-        );
+    if node.kind == rule::AT_LEAST {
+        at_least(all, chart, n, m, t, node, marks, numbers);
         return;
     }
-    at_least(all, chart, n, m, t, node, marks, numbers);
+    let met = met_by(node.kind);
+    let asked = Asked { all, met };
+    last_row(
+        asked,
+        node.c as usize + 1,
+        chart,
+        n,
+        m,
+        t,
+        node,
+        marks,
+        numbers,
+    );
 }

@@ -9,7 +9,7 @@ use Rattle.tctl.specs.Chart.{Arrow}
 use Rattle.tctl.specs.Formula.{atMost, atLeast}
 use Rattle.model.specs.Engine.{num, lowered, least, greatest}
 use Rattle.model.specs.Decide.{someRow, waits, allRow}
-use Rattle.model.proofs.Same.{Same}
+use Rattle.base.proofs.Same.{Same}
 use Rattle.chart.specs.Bytes.{chartOf}
 use Rattle.hints.specs.Values.{valueOf, values}
 use Rattle.hints.proofs.Values.{value-at}

@@ -1,4 +1,4 @@
-// E(a until b) with either bound, which one run of the engine settles.
+// E(a until b), at most c or at least c, which one run of the engine settles.
 ghost use Prim.Native.Nat.{_<_};
 ghost use Rattle.tctl.specs.Formula.{atMost, atLeast};
 ghost use Rattle.until_start.specs.Lent.{Lent};

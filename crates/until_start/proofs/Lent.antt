@@ -6,7 +6,8 @@ use Prim.Native.Nat.{ℕ, _+_, _*_, _≤_}
 use native.Mathlib.Omega.{arith}
 use Rattle.model.specs.Weighed.{weighed}
 use Rattle.model.proofs.Marks.{row-below}
-use Rattle.model.proofs.Same.{Joins, joins-ticking}
+use Rattle.tctl.proofs.Drawn.{Joins}
+use Rattle.model.proofs.Same.{joins-ticking}
 use Rattle.chart.specs.Bytes.{chartOf}
 use Rattle.chart.specs.Shape.{Passed}
 use Rattle.chart.proofs.Reading.{drawn, has-states}

@@ -15,7 +15,7 @@ use Rattle.base.proofs.Tabulate.{getD-tabulate, tabulate-same, map-tabulate}
 use Rattle.model.specs.Engine.{num, greatest}
 use Rattle.model.specs.Decide.{ask, waiting, failing, waits, ticking, plainRow}
 use Rattle.model.specs.Weighed.{weighed}
-use Rattle.model.proofs.Same.{Same}
+use Rattle.base.proofs.Same.{Same}
 use Rattle.chart.specs.Bytes.{chartOf}
 use Rattle.hints.specs.Values.{valueOf, values}
 use Rattle.hints.proofs.Values.{value-at, values-length, num-map}

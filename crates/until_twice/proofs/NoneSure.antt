@@ -17,7 +17,7 @@ use Rattle.model.specs.Engine.{num, least}
 use Rattle.model.specs.Decide.{ask, plainRow, leadsTo, sureRow, allRow}
 use Rattle.base.proofs.Every.{every-true}
 use Rattle.model.proofs.Least.{least-le}
-use Rattle.model.proofs.Same.{Same}
+use Rattle.base.proofs.Same.{Same}
 use Rattle.chart.specs.Bytes.{chartOf}
 use Rattle.chart.specs.Shape.{Passed}
 use Rattle.chart.proofs.WellFormed.{well-formed, chart-left}

@@ -13,7 +13,8 @@ use Rattle.base.proofs.Tabulate.{getD-tabulate}
 use Rattle.model.specs.Engine.{num, lowered, least}
 use Rattle.model.specs.Decide.{ask, plainRow, leadsTo, sureRow, allRow}
 use Rattle.base.proofs.Every.{every-same}
-use Rattle.model.proofs.Same.{Same, Joins}
+use Rattle.base.proofs.Same.{Same}
+use Rattle.tctl.proofs.Drawn.{Joins}
 use Rattle.chart.specs.Bytes.{chartOf}
 use Rattle.hints.specs.Values.{valueOf, testedOf, values}
 use Rattle.ways.specs.declared.Way.the-variants.{Lower}

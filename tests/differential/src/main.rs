@@ -5,9 +5,10 @@
 //! (5,000,000 of either), `--seed S` others, `--case I` and `--text I` one of either by its number, `--short I` one of
 //! the short texts, `--named I` one of the named and large ones by its number, `--replay CASE` the one whose line a
 //! difference printed. The status is 1 if anything differs, or a number of the refusal table with one of its entries,
-//! what a shown run, a count, a read or a write can be, or a loop that can be taken in no time was never met, or the
-//! library's words are not for just the numbers that were met, 2 if the options are wrong. A count is also compared with
-//! the library's own check, and what is read or written with what the library makes of that in turn.
+//! either mark of a form of node in check or in count, E exactly and A exactly among them, what a check of an exact bound,
+//! a shown run, a count, a read or a write can be, or a loop that can be taken in no time was never met, or the library's
+//! words are not for just the numbers that were met, 2 if the options are wrong. A count is also compared with the
+//! library's own check, and what is read or written with what the library makes of that in turn.
 //!
 //! `--programs DIR` runs the programs desk, desk_test_calls, desk_why, desk_rule and desk_text of that folder instead
 //! and compares all they print and write with the oracle's texts, or has the oracle judge it where several runs are

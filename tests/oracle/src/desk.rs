@@ -10,6 +10,9 @@ use crate::rule::node_count;
 pub const CHART_READ: usize = 16_906;
 pub const RULE_READ: usize = 520;
 
+/// What the program lends, whatever the rule.
+const SCRATCH: usize = 65_536;
+
 pub fn refused_line(outcome: Outcome) -> String {
     let Outcome { number, place, entry } = outcome;
     format!("refused {number} at {place} {entry}\n")
@@ -20,11 +23,11 @@ type Call = fn(&[u8], &[u8], &mut [u8], &mut [u32]) -> Outcome;
 
 /// The whole output for these bytes.
 pub fn listing(chart: &[u8], rule: &[u8]) -> String {
-    listing_by(check, &mut [0; 4 * 256], chart, rule)
+    listing_by(check, &mut vec![0; SCRATCH], chart, rule)
 }
 
 pub fn counted_listing(chart: &[u8], rule: &[u8]) -> String {
-    listing_by(count, &mut vec![0; 256 * 256], chart, rule)
+    listing_by(count, &mut vec![0; SCRATCH], chart, rule)
 }
 
 fn listing_by(call: Call, scratch: &mut [u32], chart: &[u8], rule: &[u8]) -> String {

@@ -1,6 +1,6 @@
 //! The grammar of typed rules as data, its formulas in the paper's own words.
 
-use crate::rule::{AND, AT_LEAST, AT_MOST, A_UNTIL, E_UNTIL, LABEL, NOT, OR, TRUE};
+use crate::rule::{AND, AT_LEAST, AT_MOST, A_UNTIL, EXACTLY, E_UNTIL, LABEL, NOT, OR, TRUE};
 
 /// What has a text of its own.
 #[derive(Clone, Copy, PartialEq, Eq)]
@@ -8,6 +8,7 @@ pub enum Part {
     Formula,
     LabelNumber,
     Bound,
+    ExactBound,
 }
 
 /// One way to write a part: its letters in their order.
@@ -25,7 +26,7 @@ pub enum Symbol {
     Byte(u8, u8),
 }
 
-pub static GRAMMAR: [Row; 20] = [
+pub static GRAMMAR: [Row; 27] = [
     formula(b"true", TRUE, 0),
     formula(b"Lj", LABEL, 0),
     formula(b"!f", NOT, 0),
@@ -35,6 +36,8 @@ pub static GRAMMAR: [Row; 20] = [
     formula(b"E(f U>=c g)", E_UNTIL, AT_LEAST),
     formula(b"A(f U<=c g)", A_UNTIL, AT_MOST),
     formula(b"A(f U>=c g)", A_UNTIL, AT_LEAST),
+    formula(b"E(f U==x g)", E_UNTIL, EXACTLY),
+    formula(b"A(f U==x g)", A_UNTIL, EXACTLY),
     number(Part::LabelNumber, b"d"),
     number(Part::LabelNumber, b"1m"),
     number(Part::Bound, b"d"),
@@ -46,6 +49,11 @@ pub static GRAMMAR: [Row; 20] = [
     number(Part::Bound, b"65kdd"),
     number(Part::Bound, b"655hd"),
     number(Part::Bound, b"6553m"),
+    number(Part::ExactBound, b"d"),
+    number(Part::ExactBound, b"pd"),
+    number(Part::ExactBound, b"1dd"),
+    number(Part::ExactBound, b"2kd"),
+    number(Part::ExactBound, b"25m"),
 ];
 
 /// No letter that stands for something else is a byte of the grammar's texts.
@@ -54,6 +62,7 @@ pub fn symbol(letter: u8) -> Symbol {
         b'f' | b'g' => Symbol::Part(Part::Formula),
         b'j' => Symbol::Part(Part::LabelNumber),
         b'c' => Symbol::Part(Part::Bound),
+        b'x' => Symbol::Part(Part::ExactBound),
         b'd' => Symbol::Byte(b'0', b'9'),
         b'h' => Symbol::Byte(b'0', b'2'),
         b'k' => Symbol::Byte(b'0', b'4'),

@@ -71,8 +71,9 @@ fn judge_met(asked: &Asked<'_>, run: &[Position]) -> Result<(), String> {
     let (seen, c) = (seen(asked, run), asked.until.c as u64);
     let (end, earlier) = (&seen[seen.len() - 1], &seen[..seen.len() - 1]);
     demand(end.q, || "Q doesn't hold at the last position".to_string())?;
-    let bound_met = if asked.until.at_most { end.moment <= c } else { end.moment >= c };
-    demand(bound_met, || format!("moment {} of the last position doesn't meet the bound of {c}", end.moment))?;
+    demand(asked.until.bound.is_met(end.moment, c), || {
+        format!("moment {} of the last position doesn't meet the bound of {c}", end.moment)
+    })?;
     match earlier.iter().position(|at| !at.p) {
         Some(i) => Err(format!("P doesn't hold at position {i}")),
         None => Ok(()),

@@ -1,12 +1,14 @@
 //! Check, count, shown run, kind of rule, map check, row, chart reader and the two calls for rules typed as text, written
 //! from the customer's papers alone.
 //!
-//! Check settles untils by fixpoints over pairs of a state and a minute, and runs are searched for over the same pairs;
-//! count lists states for each number of minutes left. Nothing here measures a path. Typed rules are read by Earley's
-//! method over a table of the grammar. Where the papers leave a result free, a judge says whether somebody's is right.
+//! Check settles untils by fixpoints over pairs of a state and a minute, and those of "exactly" by following all runs from
+//! a state at once; runs are searched for over the same pairs. Count lists states for each number of minutes left. Nothing
+//! here measures a path. Typed rules are read by Earley's method over a table of the grammar. Where the papers leave a
+//! result free, a judge says whether somebody's is right.
 
 mod answers;
 mod asked;
+mod bound;
 mod bytes;
 mod calls;
 mod chart;
@@ -17,6 +19,7 @@ mod desk;
 mod earley;
 mod entry;
 mod every_run;
+mod exactly;
 mod fill;
 mod front;
 mod grammar;
@@ -31,6 +34,7 @@ mod map_check;
 mod map_rows;
 mod members;
 mod minutes;
+mod moment_set;
 mod position;
 mod reach;
 mod read_rule;

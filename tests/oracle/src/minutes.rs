@@ -1,5 +1,6 @@
 //! An until by hand: one list of states after the other, for 0 minutes left up to c.
 
+use crate::bound::Bound;
 use crate::chart::Arrow;
 use crate::listed::{begin, follow, Listed};
 use crate::unbounded::unbounded;
@@ -20,7 +21,7 @@ pub fn by_minutes(until: &Until<'_>, row: &mut [u8]) {
 /// The list for so many minutes left, from the lists for fewer. What takes 0 minutes stays within this list. A run that
 /// stays there for ever doesn't count, so nothing is listed for that.
 fn minute(until: &Until<'_>, left: usize, fewer: &[Listed]) -> Listed {
-    if !until.at_most && left == 0 {
+    if until.bound == Bound::AtLeast && left == 0 {
         return unbounded(until);
     }
     let arrows = |state| until.leaving.state(state).iter();
@@ -34,10 +35,10 @@ fn minute(until: &Until<'_>, left: usize, fewer: &[Listed]) -> Listed {
 fn leads_later(until: &Until<'_>, left: usize, arrow: &Arrow, fewer: &[Listed]) -> bool {
     let capped = |minutes: u16| usize::from(minutes).min(left + 1);
     let end = usize::from(arrow.end);
-    (capped(arrow.fewest).max(1)..=capped(arrow.most)).any(|duration| match left.checked_sub(duration) {
-        Some(then) => fewer[then][end],
+    (capped(arrow.fewest).max(1)..=capped(arrow.most)).any(|duration| match (left.checked_sub(duration), until.bound) {
+        (Some(then), _) => fewer[then][end],
+        (None, Bound::AtLeast) => fewer[0][end],
         // Too late for every run that goes on: it fails.
-        None if until.at_most => until.every,
-        None => fewer[0][end],
+        (None, Bound::AtMost | Bound::Exactly) => until.every,
     })
 }

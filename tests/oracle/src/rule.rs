@@ -12,6 +12,7 @@ pub const A_UNTIL: u8 = 6;
 
 pub const AT_MOST: u8 = 1;
 pub const AT_LEAST: u8 = 2;
+pub const EXACTLY: u8 = 3;
 
 #[derive(Clone, Copy)]
 pub struct Node {

@@ -3,7 +3,7 @@
 use crate::bytes::{states_real_length, version};
 use crate::chart::state_count;
 use crate::refusals::{at_0, Case};
-use crate::rule::{node_count, nodes, Node, AT_LEAST, AT_MOST, A_UNTIL, LABEL, TRUE};
+use crate::rule::{node_count, nodes, Node, AT_LEAST, AT_MOST, A_UNTIL, EXACTLY, LABEL, TRUE};
 
 pub fn under_7_bytes(case: &Case<'_>) -> Option<usize> {
     at_0(case.rule.len() < 7)
@@ -28,7 +28,7 @@ pub fn form_wrong(case: &Case<'_>) -> Option<usize> {
 
 fn form_right(node: &Node) -> bool {
     let kind_right = match node.is_until() {
-        true => matches!(node.bound_kind, AT_MOST | AT_LEAST),
+        true => bound_right(node),
         false => node.bound_kind == 0,
     };
     let a_right = match node.operation {
@@ -39,6 +39,15 @@ fn form_right(node: &Node) -> bool {
     let b_right = node.operand_count() == 2 || node.b == 0;
     let c_right = node.is_until() || node.c == 0;
     node.operation <= A_UNTIL && kind_right && a_right && b_right && c_right
+}
+
+/// "14 takes kind 3 with c up to 255 only."
+fn bound_right(node: &Node) -> bool {
+    match node.bound_kind {
+        AT_MOST | AT_LEAST => true,
+        EXACTLY => node.c <= 255,
+        _ => false,
+    }
 }
 
 pub fn operand_not_lower(case: &Case<'_>) -> Option<usize> {

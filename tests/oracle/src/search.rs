@@ -4,6 +4,7 @@
 //! ends at, row 19 lets it go on to a run that counts.
 
 use crate::asked::Asked;
+use crate::bound::Bound;
 use crate::chart::Arrow;
 use crate::position::Position;
 use crate::until::Until;
@@ -72,20 +73,19 @@ impl<'a> Search<'a> {
     /// E: the until is met. A: it can't be met any more.
     fn ends(&self, pair: u32) -> bool {
         let (p, q, above) = self.here(pair);
-        match (self.until.every, self.until.at_most) {
-            (true, _) => above || !p && !q,
-            (false, true) => q && !above,
-            (false, false) => q && self.minute(pair) >= self.until.c,
+        match self.until.every {
+            true => above || !p && !q,
+            false => q && self.until.bound.is_met(self.minute(pair), self.until.c),
         }
     }
 
     /// Whether a reason may have steps after this pair.
     fn goes_on(&self, pair: u32) -> bool {
         let (p, q, above) = self.here(pair);
-        match (self.until.every, self.until.at_most) {
+        match (self.until.every, self.until.bound) {
             (true, _) => p && !q && !above,
-            (false, true) => p && !above,
-            (false, false) => p,
+            (false, Bound::AtLeast) => p,
+            (false, Bound::AtMost | Bound::Exactly) => p && !above,
         }
     }
 

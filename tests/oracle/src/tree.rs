@@ -43,7 +43,7 @@ fn node_of(makes: (u8, u8), item: &Item, parsed: &Parsed, values: &[usize]) -> N
         if let Some(by) = at.by {
             let field = match item.row().letters[at.read - 1] {
                 b'g' => &mut node.b,
-                b'c' => &mut node.c,
+                b'c' | b'x' => &mut node.c,
                 _ => &mut node.a,
             };
             *field = values[by] as u16;

@@ -1,4 +1,5 @@
-//! Both untils as fixpoints over pairs of a state and a minute, the minute capped at c + 1.
+//! Both untils, those bounded by "at most" and "at least" as fixpoints over pairs of a state and a minute, the minute
+//! capped at c + 1; for "exactly" see `exactly`.
 //!
 //! E: Q and bound met, or P and some next. A: Q and bound met, or P and every next.
 //! A step never lowers the minute, so the minutes are finished one by one from c + 1 down.
@@ -6,15 +7,16 @@
 //! "a run counts only if its moments pass every number": E is a least fixpoint, since row 19 lets every way go on to a run
 //! that counts. For A see `every_run`.
 
+use crate::bound::Bound;
 use crate::chart::{Arrow, NO_END};
 use crate::leaving::Leaving;
 use crate::members::Members;
-use crate::rule::{Node, AT_MOST, A_UNTIL};
+use crate::rule::{Node, A_UNTIL};
 
 pub struct Until<'a> {
     pub leaving: &'a Leaving,
     pub every: bool,
-    pub at_most: bool,
+    pub bound: Bound,
     pub c: usize,
     pub p: &'a [u8],
     pub q: &'a [u8],
@@ -23,12 +25,19 @@ pub struct Until<'a> {
 impl<'a> Until<'a> {
     /// The rows are those of the node's operands.
     pub fn of(leaving: &'a Leaving, node: &Node, p: &'a [u8], q: &'a [u8]) -> Until<'a> {
-        let (every, at_most) = (node.operation == A_UNTIL, node.bound_kind == AT_MOST);
-        Until { leaving, every, at_most, c: usize::from(node.c), p, q }
+        Until { leaving, every: node.operation == A_UNTIL, bound: Bound::of(node), c: usize::from(node.c), p, q }
+    }
+
+    /// Marks the states at which the until holds.
+    pub fn settle(&self, row: &mut [u8]) {
+        match self.bound {
+            Bound::AtMost | Bound::AtLeast => self.settle_pairs(row),
+            Bound::Exactly => self.settle_exactly(row),
+        }
     }
 
     /// Marks the states whose pair with minute 0 is in the fixpoint.
-    pub fn settle(&self, row: &mut [u8]) {
+    fn settle_pairs(&self, row: &mut [u8]) {
         let mut members = Members::none(row.len(), self.last());
         for x in (0..=self.last()).rev() {
             members.open(x);
@@ -50,7 +59,7 @@ impl<'a> Until<'a> {
 
     /// Q and bound met.
     fn begin(&self, x: usize, members: &mut Members) {
-        let met = if self.at_most { x <= self.c } else { x >= self.c };
+        let met = self.bound.is_met(x, self.c);
         for state in (0..self.q.len()).filter(|&state| met && self.q[state] == 1) {
             members.add(state, x);
         }

@@ -1,5 +1,6 @@
 //! What a state says by itself of an until, with so many minutes left.
 
+use crate::bound::Bound;
 use crate::until::Until;
 
 #[derive(Clone, Copy, PartialEq, Eq)]
@@ -11,9 +12,9 @@ pub enum Verdict {
 }
 
 impl Until<'_> {
-    /// With "at least", Q comes too early while minutes are left: only P helps then.
+    /// With "at least" and "exactly", Q comes too early while minutes are left: only P helps then.
     pub fn verdict(&self, state: usize, left: usize) -> Verdict {
-        let q_counts = self.at_most || left == 0;
+        let q_counts = self.bound == Bound::AtMost || left == 0;
         match (self.p[state] == 1, self.q[state] == 1) {
             (_, true) if q_counts => Verdict::Makes,
             (true, _) => Verdict::GoesOn,

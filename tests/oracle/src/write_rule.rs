@@ -32,7 +32,7 @@ fn node_text(node: &Node, texts: &[Vec<u8>]) -> Vec<u8> {
         b'f' => texts[usize::from(node.a)].clone(),
         b'g' => texts[usize::from(node.b)].clone(),
         b'j' => node.a.to_string().into_bytes(),
-        b'c' => node.c.to_string().into_bytes(),
+        b'c' | b'x' => node.c.to_string().into_bytes(),
         byte => vec![byte],
     };
     row.letters.iter().flat_map(written).collect()

@@ -1,5 +1,5 @@
 -- The rows before 19, then row 19 and the nodes on the numbers of scratch that are worked on; what is asked for is cleared.
-use mathlib.Core.Path.{_≡_, sym, subst, _∙_}
+use mathlib.Core.Path.{_≡_, sym, ap, ap₂, _∙_}
 use mathlib.Core.List.{List}
 use Prim.Native.Nat.{ℕ, _≤_}
 use lib.ListN.{length, take}
@@ -8,6 +8,7 @@ use native.Mathlib.Omega.{arith}
 use denote.Ref.{now}
 use Rattle.chart.proofs.WellFormed.{well-formed}
 use Rattle.rule.proofs.Accepted.{accepted}
+use Rattle.nodes.specs.Right.{numbersFor}
 use Rattle.room.specs.Room.{sizeFor}
 use Rattle.judge.proofs.Chain.{Admitted, input-passes}
 use Rattle.judge.proofs.Judgeable.{used-asked, judgeable}
@@ -34,8 +35,15 @@ counted c = c .before .before
 abbrev worked : tie.After-judged-arg2 → tie.After-numbers-for
 worked c = c .before .before
 
+-- where it is known whether minutes are counted, and the start
+abbrev minuted : tie.After-numbers-for → tie.After-minutely
+minuted c = c .before
+
+abbrev states : tie.After-numbers-for → tie.After-state-count
+states c = counted (minuted c .before)
+
 abbrev lent : tie.After-numbers-for → List ℕ
-lent c = now (given (counted (c .before)) .args .scratch)
+lent c = now (given (states c) .args .scratch)
 
 -- where the nodes are settled, on how many numbers, and the numbers then
 abbrev judged : tie.After-slice-known4 → tie.After-judged
@@ -82,17 +90,18 @@ few c = omega (arith, well-formed _ (passed (c .before) .of-chart) .shape .few-s
 -- what is worked on is no more than is asked for, which lies in the scratch lent
 inside :
     (c : tie.After-numbers-for) →
-    let count = counted (c .before) in
-    let n = count .state-count .result in
-    let counting = given count .args .counting in
-    (c .numbers-for .result ≤ sizeFor counting n) × (sizeFor counting n ≤ length (lent c))
+    let size = sizeFor (minuted c .minutely .result) (states c .state-count .result) in
+    (c .numbers-for .result ≤ size) × (size ≤ length (lent c))
 inside c =
-    let count = counted (c .before) in
-    let counting = given count .args .counting in
+    let count = states c in
+    let by = minuted c .minutely .result in
     let n = count .state-count .result in (
-      omega (arith, c .numbers-for .ensures, used-asked counting n),
-      subst (λ i. sizeFor counting i ≤ length (lent c)) (sym (count .state-count .ensures .0))
-          (passed (count .before) .room),
+      omega (arith, c .numbers-for .ensures, used-asked by n),
+      omega (
+        arith,
+        ap₂ sizeFor (minuted c .minutely .ensures) (count .state-count .ensures .0),
+        passed (count .before) .room,
+      ),
     )
 
 slice-relend-prefix-judged : tie.Need-slice-relend-prefix-judged
@@ -105,10 +114,12 @@ front c = let w = inside c in length-take-le (c .numbers-for .result) _ (omega (
 judged-requires : tie.Need-judged-requires
 judged-requires c κs =
     let used = worked c in
-    let nodes = used .before in
+    let nodes = minuted used .before in
     let count = counted nodes in
     judgeable (passed (count .before)) (count .state-count .ensures .0) (nodes .before .arrow-count .ensures .0)
-    (nodes .node-count .ensures .0) (front used ∙ used .numbers-for .ensures)
+    (nodes .node-count .ensures .0)
+    (front used ∙ used .numbers-for .ensures ∙
+    ap (λ b. numbersFor b (count .state-count .result)) (minuted used .minutely .ensures))
 
 -- as many come back, and what is cleared is no less
 used : (c : tie.After-judged) → length (numbers c) ≡ on c .numbers-for .result
@@ -138,10 +149,13 @@ returns-2 : tie.Need-returns-2
 returns-2 c =
     let size = zeros (cleared c) in
     let ran = judged (size .before) in
-    let count = counted (on ran .before) in
+    let count = states (on ran) in
     let else = count .before in
     judged-answered _ _ _ _ _ (tried (else .before) .input-refusal .ensures) (else .if1 .left)
-    (count .state-count .ensures .0) (size .scratch-size .ensures) (ran .judged .ensures)
+    (count .state-count .ensures .0)
+    (size .scratch-size .ensures ∙
+    ap (λ b. sizeFor b (count .state-count .result)) (minuted (on ran) .minutely .ensures))
+    (ran .judged .ensures)
     (cleared-front _ _ (lent (on ran)) (numbers ran) (used ran) (sized size .0) (sized size .1)
     (cleared c .clear .last .0) (cleared c .clear .kept .0) (cleared c .clear .ensures))
 
@@ -149,7 +163,8 @@ pub judge-spec : {M : Type 1} → statement M
 judge-spec =
     tie.close
     (tie.spec (λ c κs. search needs) (λ c. search needs) (λ c. search needs) returns state-count-requires
-    arrow-count-requires node-count-requires (λ c κs. few (counted c)) slice-relend-prefix-judged
-    (λ c. sym (front (worked c))) judged-requires (λ c κs. few (counted (on (judged c) .before)))
+    arrow-count-requires node-count-requires (λ c κs. passed (counted c .before) .of-rule)
+    (λ c κs. few (counted (c .before))) slice-relend-prefix-judged (λ c. sym (front (worked c))) judged-requires
+    (λ c κs. few (states (on (judged c))))
     slice-relend-prefix-clear slice-aggregate-clear (λ c κs. search needs) (λ c. search needs) (λ c. search needs)
     returns-2)

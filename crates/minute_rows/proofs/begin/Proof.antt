@@ -15,11 +15,11 @@ use Rattle.minute_rows.proofs.begin.Statement.{statement}
 use Rattle.minute_rows.proofs.begin.Tie as tie
 
 abbrev Inv-loop : tie.InvT-loop
-Inv-loop asked n minute p q beyond numbers₀ at made s₀ numbers s =
-    (s ≤ n) × Entries (minute * n) s (rowBegun asked n minute p q beyond numbers₀) numbers₀ numbers
+Inv-loop all met n minute p q beyond numbers₀ at made s₀ numbers s =
+    (s ≤ n) × Entries (minute * n) s (rowBegun all met n minute p q beyond numbers₀) numbers₀ numbers
 
 abbrev μ-loop : tie.MeasureT-loop
-μ-loop asked n minute p q beyond numbers₀ at made s₀ numbers s = n - s
+μ-loop all met n minute p q beyond numbers₀ at made s₀ numbers s = n - s
 
 -- where it is known whether a state stops, where the number below is, a turn, the loop's head, and the start
 abbrev found : tie.After-stops Inv-loop μ-loop → tie.After-below Inv-loop μ-loop

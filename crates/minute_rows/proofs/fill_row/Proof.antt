@@ -7,9 +7,12 @@ use Rattle.minute_rows.proofs.Row.{row-filled}
 use Rattle.minute_rows.proofs.fill_row.Statement.{statement}
 use Rattle.minute_rows.proofs.fill_row.Tie as tie
 
--- the start, and where the row is begun, swept and closed
+-- where it is known whether the bound is met, the start, and where the row is begun, swept and closed
+abbrev met : tie.After-begin → tie.After-met-in
+met c = c .before .before
+
 abbrev start : tie.After-begin → tie.Start
-start c = c .before .before .before .before .before .before .before .before
+start c = met c .before .before .before .before .before .before .before
 
 abbrev begun : tie.After-sweep-arg → tie.After-begin
 begun c = c .before .before .before
@@ -36,9 +39,9 @@ returns c =
     let last = closed c in
     let later = swept (last .before) in
     let first = begun (later .before) in
-    row-filled (start first .pre) (first .begin .ensures) (later .sweep .ensures) (last .rounds .ensures)
+    row-filled (start first .pre) (met first .met-in .ensures) (first .begin .ensures) (later .sweep .ensures) (last .rounds .ensures)
 
 pub fill-row-spec : {M : Type 1} → statement M
 fill-row-spec =
     tie.close
-    (tie.spec (λ c κs. search needs) sweep-requires rounds-requires (λ c. search needs) returns)
+    (tie.spec (λ c κs. search needs) (λ c κs. search needs) sweep-requires rounds-requires (λ c. search needs) returns)

@@ -1,109 +1,86 @@
--- Invariant: the rows with fewer minutes left are filled.
-use mathlib.Core.Path.{_≡_, refl, subst, _∙_}
+-- An exact bound has its own first row; with any other the rows are alike.
+use mathlib.Core.Path.{_≡_, refl, sym, ap, _∙_}
 use mathlib.Core.List.{List}
-use Prim.Native.Nat.{ℕ, _≤_, _-_}
+use Prim.Native.Nat.{ℕ, _≤_}
 use native.Mathlib.Omega.{arith}
+use native.Mathlib.Nat.{mul-le-mul-right}
 use lib.ListN.{length}
-use denote.Ref.{now}
 use borrow.Author.Needs.{needs}
-use Rattle.tctl.specs.Chart.{Chart}
-use Rattle.model.proofs.Marks.{row-below}
-use Rattle.chart.specs.Bytes.{chartOf}
-use Rattle.chart.proofs.Reading.{counted}
-use Rattle.minutes.specs.Makes.{Task}
-use Rattle.minute_rows.specs.Numbers.{taskIn}
-use Rattle.minute_rows.specs.Filled.{RowsFilled}
+use Rattle.minute_rows.specs.Numbers.{metIn}
+use Rattle.minute_rows.specs.Filled.{Ready}
+use Rattle.minute_rows.proofs.Steady.{met-later, met-throughout, none-filled}
 use Rattle.minute_rows.proofs.fill_rows.Statement.{statement}
 use Rattle.minute_rows.proofs.fill_rows.Tie as tie
 
-abbrev Inv-loop : tie.InvT-loop
-Inv-loop asked count chart n m p q beyond numbers₀ words ends minute₀ numbers minute =
-    (minute ≤ count) × (length numbers ≡ length numbers₀) ×
-    RowsFilled (chartOf chart) n (taskIn asked p q beyond) minute numbers
-
-abbrev μ-loop : tie.MeasureT-loop
-μ-loop asked count chart n m p q beyond numbers₀ words ends minute₀ numbers minute = count - minute
-
--- the start, where the arrows are collected, where a row is filled, a turn, and the start from the loop
-abbrev start : tie.After-words Inv-loop μ-loop → tie.Start Inv-loop μ-loop
+-- the start, where the kind of bound is known, and where the rows are filled
+abbrev start : tie.After-is-at-end → tie.Start
 start c = c .before .before .before .before .before .before
 
-abbrev gathered : tie.At-loop Inv-loop μ-loop → tie.After-collect Inv-loop μ-loop
-gathered c = c .before .before
+abbrev exact : tie.After-fill-rows-from-arg → tie.Then1
+exact c = c .before
 
-abbrev filled : tie.After-slice-known2 Inv-loop μ-loop → tie.After-fill-row Inv-loop μ-loop
-filled c = c .before .before
+abbrev first : tie.After-fill-rows-from-arg2 → tie.After-fill-rows-from
+first c = c .before .before .before
 
-abbrev turn : tie.After-fill-row Inv-loop μ-loop → tie.In-loop Inv-loop μ-loop
-turn c = c .before .before .before
+abbrev later : tie.After-slice-known3 → tie.After-fill-rows-from2
+later c = c .before .before
 
-abbrev begun : tie.At-loop Inv-loop μ-loop → tie.Start Inv-loop μ-loop
-begun c = start (gathered c .before)
+abbrev other : tie.After-fill-rows-from-arg3 → tie.Else1
+other c = c .before
 
--- so many rows
-filled-as :
-    {G : Chart} {n : ℕ} (w : Task) {k j : ℕ} {numbers : List ℕ} → k ≡ j → RowsFilled G n w k numbers →
-    RowsFilled G n w j numbers
-filled-as {G} {n} w {numbers = numbers} e = subst (λ k. RowsFilled G n w k numbers) e
+abbrev throughout : tie.After-slice-known4 → tie.After-fill-rows-from3
+throughout c = c .before .before
 
--- the task
-abbrev asked-in : tie.At-loop Inv-loop μ-loop → Task
-asked-in c =
-    let a = begun c .args in
-    taskIn (a .asked) (now (a .p)) (now (a .q)) (now (a .beyond))
-
-collect-requires : tie.Need-collect-requires Inv-loop μ-loop
-collect-requires c κs =
-    let p = start c .pre in
-    record { passed = p .passed; first = p .first; second = p .second; room = refl }
-
-loop-holds : tie.Need-loop-holds Inv-loop μ-loop
-loop-holds c = (omega arith, refl, record { last = λ m s l. absurd (let z : ⊥ = omega arith in z) })
-
-slice-aggregate-fill-row : tie.Need-slice-aggregate-fill-row Inv-loop μ-loop
-slice-aggregate-fill-row c = search needs
-
-fill-row-requires : tie.Need-fill-row-requires Inv-loop μ-loop
-fill-row-requires c κs =
-    let known = c .before in
-    let in-loop = known .before in
-    let at-loop = in-loop .before in
-    let p = begun at-loop .pre in
-    let inv = at-loop .loop .inv in
+-- fewer rows have room, and so have rows in numbers of the same length
+ready-for :
+    {count fewer : ℕ} {chart : List ℕ} {n m : ℕ} {p q beyond old new : List ℕ} → 1 ≤ fewer → fewer ≤ count →
+    length new ≡ length old → Ready count chart n m p q beyond old → Ready fewer chart n m p q beyond new
+ready-for {n = n} some few size r =
     record {
-      passed = counted (p .passed);
-      rows =
-          record {
-            first = p .first;
-            second = p .second;
-            wide = p .wide;
-            room = omega (arith, row-below (begun at-loop .args .n) (in-loop .loop-test .taken), p .room, inv .1);
-            few = omega (arith, p .few, in-loop .loop-test .taken);
-          };
-      long = gathered at-loop .collect .kept .1 .1 .1 .1 .1 .1 .0;
-      collected = gathered at-loop .collect .ensures;
-      filled = inv .2;
+      passed = r .passed;
+      first = r .first;
+      second = r .second;
+      wide = r .wide;
+      room = omega (arith, r .room, mul-le-mul-right n few);
+      some = some;
+      few = omega (arith, r .few);
     }
 
-loop-again : tie.Need-loop-again Inv-loop μ-loop
-loop-again c =
-    let row = filled c in
-    let in-loop = turn row in
-    let at-loop = in-loop .before in
-    let inv = at-loop .loop .inv in (
-      omega (arith, in-loop .loop-test .taken),
-      row .fill-row .kept .1 .1 .1 .1 .1 .1 .1 .1 .1 .0 ∙ inv .1,
-      filled-as (asked-in at-loop) (omega arith) (row .fill-row .ensures),
+fill-rows-from-requires : tie.Need-fill-rows-from-requires
+fill-rows-from-requires c κs =
+    let r = start (exact c .before) .pre in (
+      ready-for (omega arith) (r .some) refl r,
+      record { order = omega arith; same = λ m l h. let z : 0 ≡ m = omega arith in ap (metIn (start (exact c .before) .args .asked)) z; filled = none-filled _ _ _ _ },
     )
 
-returns : tie.Need-returns Inv-loop μ-loop
-returns c =
-    let at-loop = c .before in
-    let inv = at-loop .loop .inv in
-    filled-as (asked-in at-loop) (omega (arith, inv .0)) (inv .2)
+fill-rows-from-requires-2 : tie.Need-fill-rows-from-requires-2
+fill-rows-from-requires-2 c κs =
+    let row = first c in
+    let test = exact (row .before) in
+    let r = start (test .before) .pre in (
+      ready-for (r .some) (omega arith) (search needs) r,
+      record {
+        order = r .some;
+        same = λ m l h. met-later (start (test .before) .args .asked .met) (sym (test .before .is-at-end .ensures) ∙ test .if1 .taken) m l;
+        filled = row .fill-rows-from .ensures;
+      },
+    )
+
+fill-rows-from-requires-3 : tie.Need-fill-rows-from-requires-3
+fill-rows-from-requires-3 c κs =
+    let test = other c in
+    let r = start (test .before) .pre in (
+      r,
+      record {
+        order = omega arith;
+        same = λ m l h. met-throughout (start (test .before) .args .asked .met) (sym (test .before .is-at-end .ensures) ∙ test .if1 .left) m;
+        filled = none-filled _ _ _ _;
+      },
+    )
 
 pub fill-rows-spec : {M : Type 1} → statement M
 fill-rows-spec =
     tie.close
-    (tie.spec Inv-loop μ-loop (λ c. refl) collect-requires loop-holds slice-aggregate-fill-row fill-row-requires
-    (λ c. omega arith) (λ c. omega arith) loop-again (λ c. c .before .loop .inv .1) returns)
+    (tie.spec (λ c κs. search needs) fill-rows-from-requires fill-rows-from-requires-2 (λ c. search needs)
+    (λ c. later c .fill-rows-from2 .ensures) fill-rows-from-requires-3 (λ c. search needs)
+    (λ c. throughout c .fill-rows-from3 .ensures))

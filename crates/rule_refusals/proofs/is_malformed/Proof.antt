@@ -17,19 +17,16 @@ use Rattle.rule_refusals.proofs.is_malformed.Tie as tie
 abbrev start : tie.After-form → tie.Start
 start c = c .before
 
-abbrev bounded : tie.After-struct-known → tie.Then1
-bounded c = c .before
-
-abbrev formed : tie.Else3 → tie.After-form
+abbrev formed : tie.Else2 → tie.After-form
 formed c = c .before .before
 
-abbrev unbounded : tie.After-struct-known3 → tie.Else3
+abbrev unbounded : tie.After-struct-known → tie.Else2
 unbounded c = c .before
 
-abbrev kindless : tie.After-struct-known4 → tie.Else4
+abbrev kindless : tie.After-struct-known2 → tie.Else3
 kindless c = c .before
 
-abbrev few : tie.After-struct-known5 → tie.Else6
+abbrev few : tie.After-struct-known3 → tie.Else5
 few c = c .before
 
 -- an until
@@ -41,7 +38,7 @@ module _ (c : tie.Then1) where
   bound = sym (c .before .form .ensures) ∙ c .if1 .taken
 
 -- an operation without a bound
-module _ (c : tie.Else3) where
+module _ (c : tie.Else2) where
   abbrev node : NodeWords
   node = start (formed c) .args .w
 
@@ -52,11 +49,11 @@ module _ (c : tie.Else3) where
   same = formed c .form .ensures
 
   plain : form ≤ 3
-  plain = omega (arith, same, c .before .if1 .left, c .if3 .left)
+  plain = omega (arith, same, c .before .if1 .left, c .if2 .left)
 
 -- such a one with neither kind nor c: b and a are left
-module _ (c : tie.Else5) where
-  abbrev known : tie.Else3
+module _ (c : tie.Else4) where
+  abbrev known : tie.Else2
   known = unbounded (kindless (c .before) .before)
 
   fields-left :
@@ -64,43 +61,37 @@ module _ (c : tie.Else5) where
       ((ltb (form known) 3 && not (eqb (node known .b) 0)) || wrongA (form known) (node known .a))
   fields-left =
       malformed-plain (node known) (plain known) ∙
-      rw (eq-eqb (node known .kind) 0 (kindless (c .before) .if4 .left), eq-eqb (node known .c) 0 (c .if5 .left))
+      rw (eq-eqb (node known .kind) 0 (kindless (c .before) .if3 .left), eq-eqb (node known .c) 0 (c .if4 .left))
 
 returns : tie.Need-returns
 returns c =
-    let u = bounded (c .before) in
-    rw (malformed-until (until u) (bound u), lt-ltb (until u .kind) 1 (c .if2 .taken))
+    let u = c .before in
+    c .wrong-bound .ensures ∙ sym (malformed-until (until u) (bound u))
 
 returns-2 : tie.Need-returns-2
 returns-2 c =
     let test = c .before in
-    let u = bounded (test .before) in
-    rw (malformed-until (until u) (bound u), le-ltb (until u .kind) 1 (test .if2 .left))
-
-returns-3 : tie.Need-returns-3
-returns-3 c =
-    let test = c .before in
     let f = test .before in
     sym (malformed-unknown (start f .args .w) (omega (arith, f .form .ensures)))
 
+returns-3 : tie.Need-returns-3
+returns-3 c =
+    let p = unbounded (c .before) in
+    rw (malformed-plain (node p) (plain p), ne-eqb (node p .kind) 0 (c .if3 .taken))
+
 returns-4 : tie.Need-returns-4
 returns-4 c =
-    let p = unbounded (c .before) in
-    rw (malformed-plain (node p) (plain p), ne-eqb (node p .kind) 0 (c .if4 .taken))
-
-returns-5 : tie.Need-returns-5
-returns-5 c =
     let k = kindless (c .before) in
     let p = unbounded (k .before) in
     rw (
       malformed-plain (node p) (plain p),
-      eq-eqb (node p .kind) 0 (k .if4 .left),
-      ne-eqb (node p .c) 0 (c .if5 .taken),
+      eq-eqb (node p .kind) 0 (k .if3 .left),
+      ne-eqb (node p .c) 0 (c .if4 .taken),
     )
 
-returns-6 : tie.Need-returns-6
+returns-5 : tie.Need-returns-5
 unfolding wrongA
-returns-6 c =
+returns-5 c =
     let p = known (c .before) in
     let e = same p in
     rw (
@@ -110,25 +101,25 @@ returns-6 c =
       ne-eqb (form p) 1 (λ q. omega arith),
     )
 
-returns-7 : tie.Need-returns-7
-returns-7 c =
+returns-6 : tie.Need-returns-6
+returns-6 c =
     let f = few (c .before) in
     let p = known (f .before) in
     let e = same p in
-    rw (fields-left (f .before), lt-ltb (form p) 3 (omega arith), ne-eqb (node p .b) 0 (c .if7 .taken))
+    rw (fields-left (f .before), lt-ltb (form p) 3 (omega arith), ne-eqb (node p .b) 0 (c .if6 .taken))
 
-returns-8 : tie.Need-returns-8
-returns-8 c =
+returns-7 : tie.Need-returns-7
+returns-7 c =
     let test = c .before in
     let f = few (test .before) in
     let p = known (f .before) in
     let e = same p in
-    rw (fields-left (f .before), lt-ltb (form p) 3 (omega arith), eq-eqb (node p .b) 0 (test .if7 .left)) (
+    rw (fields-left (f .before), lt-ltb (form p) 3 (omega arith), eq-eqb (node p .b) 0 (test .if6 .left)) (
     c .wrong-a .ensures ∙ ap (λ f. wrongA f (node p .a)) e
     )
 
 pub is-malformed-spec : {M : Type 1} → statement M
 is-malformed-spec =
     tie.close
-    (tie.spec (λ c κs. search needs) returns returns-2 returns-3 returns-4 returns-5 returns-6 returns-7
-    (λ c κs. search needs) returns-8)
+    (tie.spec (λ c κs. search needs) (λ c κs. search needs) returns returns-2 returns-3 returns-4 returns-5 returns-6
+    (λ c κs. search needs) returns-7)

@@ -1,18 +1,24 @@
 -- Invariant: what is written, followed by the walk of the steps that are left, is the whole walk.
-use Prim.Native.Nat.{_*_, _<_, _-_}
+use mathlib.Core.Path.{_≡_}
+use mathlib.Core.List.{[], _∷_}
+use Prim.Native.Nat.{_*_, _≤_, _<_, _-_}
 use native.Mathlib.Omega.{arith}
 use borrow.Author.Needs.{needs}
 use denote.Ref.{now}
 use Rattle.append.proofs.Append.{appended-size}
 use Rattle.chart.proofs.Reading.{shaped, counted}
 use Rattle.step_table.specs.Table.{RowLow}
-use Rattle.run_walk.proofs.Rest.{Rest, rows-low, rest-all, rest-less, rest-none}
+use Rattle.shown.specs.Shown.{place}
+use Rattle.run_walk.specs.Walk.{walkOn}
+use Rattle.run_walk.proofs.Walk.{walk-on-length, walk-first, walk-last}
+use Rattle.run_walk.proofs.Rest.{Rest, rows-low, rest-all, rest-room, rest-less, rest-none}
 use Rattle.run_walk.proofs.follow.Statement.{statement}
 use Rattle.run_walk.proofs.follow.Tie as tie
 
 abbrev Inv-loop : tie.InvT-loop
 Inv-loop measure chart n m firsts nexts k s table out₀ state₀ left₀ end₀ out state left end =
-    Rest measure chart n table k s out₀ out state left end
+    (state < n) × (left ≤ k) ×
+    Rest (walkOn measure chart n table k s) out₀ out end (walkOn measure chart n table left state)
 
 abbrev μ-loop : tie.MeasureT-loop
 μ-loop measure chart n m firsts nexts k s table out₀ state₀ left₀ end₀ out state left end = left
@@ -46,8 +52,9 @@ last c = c .before .before
 loop-holds : tie.Need-loop-holds Inv-loop μ-loop
 loop-holds c =
     let a = entry c .args in
-    rest-all (a .measure) (now (a .chart)) (a .n) (now (a .table)) (a .k) (a .s) (now (a .out)) (entry c .pre .0 .state)
-    (entry c .pre .0 .room)
+    let p = entry c .pre .0 in
+    let size = walk-on-length (a .measure) (now (a .chart)) (a .n) (now (a .table)) (a .k) (a .s) in
+    (p .state, omega arith, rest-all (omega (arith, size, p .room)))
 
 -- the row that the arrow is looked for by
 low :
@@ -56,12 +63,12 @@ low :
     RowLow (a .n) ((c .before .loop .left - 1) * a .n) (now (a .table))
 low c =
     rows-low (start (c .before) .pre .0) (c .before .loop .left - 1)
-    (omega (arith, c .loop-test .taken, c .before .loop .inv .few))
+    (omega (arith, c .loop-test .taken, c .before .loop .inv .1))
 
 tight-arrow-requires : tie.Need-tight-arrow-requires Inv-loop μ-loop
 tight-arrow-requires c κs =
     let pre = start (c .before) .pre in
-    (pre .0 .passed, pre .1, pre .0 .capped, low c, c .before .loop .inv .inside)
+    (pre .0 .passed, pre .1, pre .0 .capped, low c, c .before .loop .inv .0)
 
 arrow-requires : tie.Need-arrow-requires Inv-loop μ-loop
 arrow-requires c κs =
@@ -69,34 +76,59 @@ arrow-requires c κs =
 
 -- a state is a word
 small : (c : tie.At-loop Inv-loop μ-loop) → c .loop .state < 65536
-small c = omega (arith, c .loop .inv .inside, shaped (start c .pre .0 .passed) .few-states)
+small c = omega (arith, c .loop .inv .0, shaped (start c .pre .0 .passed) .few-states)
+
+-- the position that is written, and what is left of the walk after it
+step :
+    (c : tie.After-pick Inv-loop μ-loop) →
+    let at-loop = turn (taken c) .before in
+    let a = start at-loop .args in
+    walkOn (a .measure) (now (a .chart)) (a .n) (now (a .table)) (at-loop .loop .left) (at-loop .loop .state) ≡
+    place (at-loop .loop .state) (c .pick .result) ∷
+    walkOn (a .measure) (now (a .chart)) (a .n) (now (a .table)) (at-loop .loop .left - 1) (c .before .arrow .result .end)
+step c =
+    let i = taken c in
+    let at-loop = turn i .before in
+    let a = start at-loop .args in
+    walk-first (a .measure) (now (a .chart)) (a .n) (now (a .table)) (at-loop .loop .state)
+    (omega (arith, turn i .loop-test .taken)) (i .tight-arrow .ensures .0) (c .before .arrow .ensures .0)
+    (c .pick .ensures)
 
 put-position-requires : tie.Need-put-position-requires Inv-loop μ-loop
 put-position-requires c κs =
-    let at-loop = turn (taken (c .before)) .before in
-    (small at-loop, record { fits = omega (arith, at-loop .loop .inv .room) })
+    let pick = c .before in
+    let at-loop = turn (taken pick) .before in
+    (small at-loop, rest-room (at-loop .loop .inv .2) _ (step pick))
 
 loop-again : tie.Need-loop-again Inv-loop μ-loop
 loop-again c =
     let pick = picked (written c) in
-    let i = taken pick in
-    let at-loop = turn i .before in
-    let a = start at-loop .args in
-    let read = pick .before .arrow .ensures in
-    rest-less (a .measure) (now (a .chart)) (a .n) (now (a .table)) (a .k) (a .s) (now (a .out)) (at-loop .loop .inv)
-    (at-loop .loop .left - 1) (omega (arith, turn i .loop-test .taken)) (i .tight-arrow .ensures .0) (read .0)
-    (read .1 .end) (pick .pick .ensures) (written c .put-position .ensures)
+    let inv = turn (taken pick) .before .loop .inv in (
+      pick .before .arrow .ensures .1 .end,
+      omega (arith, inv .1),
+      rest-less (inv .2) (step pick) (written c .put-position .ensures),
+    )
+
+-- after the last step
+end :
+    (c : tie.After-loop Inv-loop μ-loop) →
+    let a = start (c .before) .args in
+    walkOn (a .measure) (now (a .chart)) (a .n) (now (a .table)) (c .before .loop .left) (c .before .loop .state) ≡
+    place (c .before .loop .state) 0 ∷ []
+end c =
+    let a = start (c .before) .args in
+    walk-last (a .measure) (now (a .chart)) (a .n) (now (a .table)) (c .before .loop .state)
+    (omega (arith, c .loop-test .left))
 
 put-position-requires-2 : tie.Need-put-position-requires-2 Inv-loop μ-loop
 put-position-requires-2 c κs =
-    (small (over c .before), record { fits = omega (arith, over c .before .loop .inv .room) })
+    let done = over c in
+    (small (done .before), rest-room (done .before .loop .inv .2) _ (end done))
 
 returns : tie.Need-returns Inv-loop μ-loop
 returns c =
     let done = over (last c .before) in
-    let a = start (done .before) .args in
-    rest-none (a .measure) (now (a .chart)) (a .n) (now (a .table)) (a .k) (a .s) (now (a .out))
-    (done .before .loop .inv) (omega (arith, done .loop-test .left)) (last c .put-position2 .ensures)
+    rest-none (done .before .loop .inv .2) (end done) (last c .put-position2 .ensures)
 
 same-length : tie.Need-same-length Inv-loop μ-loop
 same-length c = appended-size (returns c)

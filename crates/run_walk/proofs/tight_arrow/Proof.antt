@@ -10,12 +10,14 @@ use Rattle.model.specs.Engine.{num}
 use Rattle.chart.proofs.Reading.{shaped, counted}
 use Rattle.step_numbers.proofs.Slots.{weight-low}
 use Rattle.arrow_links.specs.Linked.{Lowest}
-use Rattle.run_walk.proofs.Tight.{Led, led, passed-over, tight-found, tight-none}
+use Rattle.run_walk.specs.Walk.{isTight}
+use Rattle.run_walk.proofs.Led.{Led, led}
+use Rattle.run_walk.proofs.Tight.{passed-over, tight-found, tight-others, tight-none}
 use Rattle.run_walk.proofs.tight_arrow.Statement.{statement}
 use Rattle.run_walk.proofs.tight_arrow.Tie as tie
 
 abbrev Inv-loop : tie.InvT-loop
-Inv-loop measure chart n m firsts nexts at s table number i₀ i = Led measure chart n table at s m i
+Inv-loop measure chart n m firsts nexts at s table number i₀ i = Led chart s (isTight measure chart n table at s) m i
 
 abbrev μ-loop : tie.MeasureT-loop
 μ-loop measure chart n m firsts nexts at s table number i₀ i = m - i
@@ -50,7 +52,8 @@ loop-holds : tie.Need-loop-holds Inv-loop μ-loop
 loop-holds c =
     let a = entry c .args in
     let p = entry c .pre in
-    led (a .measure) (now (a .chart)) (a .n) (now (a .table)) (a .at) (a .s) (p .1 .first (a .s) (p .4)) (below-none _)
+    led _ (tight-others (a .measure) (now (a .chart)) (a .n) (now (a .table)) (a .at) (a .s)) (p .1 .first (a .s) (p .4))
+    (below-none _)
 
 arrow-requires : tie.Need-arrow-requires Inv-loop μ-loop
 arrow-requires c κs =
@@ -140,7 +143,7 @@ loop-again c =
     let arrow = read weight in
     let loop = turn arrow .before .loop in
     let a = start (turn arrow .before) .args in
-    led (a .measure) (now (a .chart)) (a .n) (now (a .table)) (a .at) (a .s) (next arrow)
+    led _ (tight-others (a .measure) (now (a .chart)) (a .n) (now (a .table)) (a .at) (a .s)) (next arrow)
     (below-more _ (loop .i) (loop .inv .under)
     (passed-over (a .measure) (now (a .chart)) (a .n) (now (a .table)) (a .at) (a .s) (loop .i)
     (arrow .arrow .ensures .0) (own arrow) (_, weight .weight .ensures, else .before .settled .ensures)

@@ -48,6 +48,7 @@ find-run-requires c κs =
     record {
       passed = h .passed;
       small = h .small;
+      exact = h .exact;
       left = h .left;
       right = h .right;
       inside = h .inside;

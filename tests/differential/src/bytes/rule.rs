@@ -10,6 +10,13 @@ pub const OR: u8 = 4;
 pub const E: u8 = 5;
 pub const A: u8 = 6;
 
+pub const AT_MOST: u8 = 1;
+pub const AT_LEAST: u8 = 2;
+pub const EXACTLY: u8 = 3;
+
+/// The greatest c of an exact bound.
+pub const MOST_EXACT: u16 = 255;
+
 #[derive(Clone, Copy, Debug, PartialEq, Eq)]
 pub struct Node {
     pub operation: u8,
@@ -34,6 +41,15 @@ impl Node {
             AND | OR | E | A => 2,
             _ => 0,
         }
+    }
+}
+
+/// The numbers of scratch that check wants: one exact bound is enough for the more, wherever it stands.
+pub fn check_scratch(nodes: &[Node], n: usize) -> usize {
+    if nodes.iter().any(|node| node.kind == EXACTLY) {
+        256 * n
+    } else {
+        4 * n
     }
 }
 

@@ -1,6 +1,6 @@
 //! Rules as text: the text of a tree, and the order in which a text's nodes are numbered.
 
-use crate::bytes::rule::{Node, A, AND, E, LABEL, NOT, OR, TRUE};
+use crate::bytes::rule::{Node, A, AND, AT_LEAST, AT_MOST, E, LABEL, NOT, OR, TRUE};
 
 /// The text of the tree under the last node.
 pub fn text(nodes: &[Node]) -> Vec<u8> {
@@ -40,8 +40,9 @@ fn between(node: Node) -> String {
     match (node.operation, node.kind) {
         (AND, _) => " & ".into(),
         (OR, _) => " | ".into(),
-        (_, 1) => format!(" U<={} ", node.c),
-        _ => format!(" U>={} ", node.c),
+        (_, AT_MOST) => format!(" U<={} ", node.c),
+        (_, AT_LEAST) => format!(" U>={} ", node.c),
+        _ => format!(" U=={} ", node.c),
     }
 }
 
@@ -82,6 +83,7 @@ mod tests {
         assert_eq!(told(&[label(0), yes, plain(OR, 1, 0)]), "(true | L0)");
         assert_eq!(told(&[yes, label(2), node(A, 1, 0, 1, 14)]), "A(true U<=14 L2)");
         assert_eq!(told(&[yes, label(2), node(E, 2, 1, 0, 0)]), "E(L2 U>=0 true)");
+        assert_eq!(told(&[yes, label(2), node(A, 3, 0, 1, 255)]), "A(true U==255 L2)");
     }
 
     #[test]

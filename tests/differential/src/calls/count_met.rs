@@ -2,12 +2,12 @@
 //! about the shortest that are enough, and 63 beside the rows before and after it.
 
 use crate::bytes::chart::{Arrow, NO_END};
-use crate::bytes::rule::{self, plain, A, E, TRUE};
+use crate::bytes::rule::{self, plain, A, AT_LEAST, AT_MOST, E, EXACTLY, TRUE};
 use crate::calls::compare::Answer;
 use crate::cases::case::Case;
 
 /// The untils in the order of the tables below.
-const FORMS: [(u8, u8); 4] = [(E, 1), (E, 2), (A, 1), (A, 2)];
+const FORMS: [(u8, u8); 6] = [(E, AT_MOST), (E, AT_LEAST), (A, AT_MOST), (A, AT_LEAST), (E, EXACTLY), (A, EXACTLY)];
 
 macro_rules! under_bounds {
     ($until:literal) => {
@@ -20,8 +20,14 @@ macro_rules! under_bounds {
 }
 
 /// At states where the first operand alone holds: elsewhere the arrows don't count.
-const BOUNDS: [[[&str; 2]; 3]; 4] =
-    [under_bounds!("E at most"), under_bounds!("E at least"), under_bounds!("A at most"), under_bounds!("A at least")];
+const BOUNDS: [[[&str; 2]; 3]; 6] = [
+    under_bounds!("E at most"),
+    under_bounds!("E at least"),
+    under_bounds!("A at most"),
+    under_bounds!("A at least"),
+    under_bounds!("E exactly"),
+    under_bounds!("A exactly"),
+];
 
 macro_rules! in_a_row {
     ($until:literal) => {
@@ -32,8 +38,14 @@ macro_rules! in_a_row {
     };
 }
 
-const ROWS: [[&str; 2]; 4] =
-    [in_a_row!("E at most"), in_a_row!("E at least"), in_a_row!("A at most"), in_a_row!("A at least")];
+const ROWS: [[&str; 2]; 6] = [
+    in_a_row!("E at most"),
+    in_a_row!("E at least"),
+    in_a_row!("A at most"),
+    in_a_row!("A at least"),
+    in_a_row!("E exactly"),
+    in_a_row!("A exactly"),
+];
 
 const OTHERS: [&str; 24] = [
     "c a minute below the fewest",
@@ -215,14 +227,14 @@ impl Until<'_> {
     /// The state's arrow, if it leads on within the minute: by the fewest or by the most, as the until asks.
     fn instant(&self, state: usize) -> Option<usize> {
         let i = self.only[state].filter(|_| self.open(state))?;
-        let quickest = matches!(FORMS[self.form], (E, 1) | (A, 2));
+        let quickest = matches!(FORMS[self.form], (E, AT_MOST | EXACTLY) | (A, AT_LEAST));
         let minutes = if quickest { self.arrows[i].fewest } else { self.arrows[i].most };
         (minutes == 0).then_some(i)
     }
 
     /// Three such arrows in a row. With "at least 0" any arrow would do.
     fn in_a_row(&self, state: usize) -> Option<&'static str> {
-        if self.c == 0 && FORMS[self.form].1 == 2 {
+        if self.c == 0 && FORMS[self.form].1 == AT_LEAST {
             return None;
         }
         let first = self.instant(state)?;

@@ -3,7 +3,9 @@
 pub mod compare;
 pub mod count_as_check;
 pub mod count_met;
+pub mod exact_met;
 pub mod loops_met;
+pub mod marks_met;
 pub mod met;
 pub mod numbers_met;
 pub mod outcome;

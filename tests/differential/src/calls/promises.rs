@@ -1,5 +1,6 @@
 //! What the paper says of every answer, whatever the case: both programs are held to it.
 
+use crate::bytes::rule;
 use crate::calls::compare::{Answer, Kind};
 use crate::calls::outcome::Outcome;
 use crate::calls::text_promises;
@@ -39,9 +40,10 @@ fn output_kept(number: u32, state: usize, written: usize, lent: &[u8], output: &
 /// How many marks check writes and how many numbers of scratch it clears.
 fn left_by_check(number: u32, chart: &[u8], rule: &[u8]) -> (usize, usize) {
     let (n, k) = (word(chart, 5), word(rule, 5));
+    let numbers = rule::check_scratch(&rule::nodes(rule), n);
     match number {
-        0 => (k * n, 4 * n),
-        19 => (0, 4 * n),
+        0 => (k * n, numbers),
+        19 => (0, numbers),
         _ => (0, 0),
     }
 }

@@ -5,7 +5,7 @@ use crate::calls::compare::Answer;
 use crate::calls::rule_met::{self, only};
 use crate::cases::case::Case;
 
-const KINDS: [&str; 19] = [
+const KINDS: [&str; 22] = [
     "64 where the text ends",
     "64 at byte 0",
     "64 behind a whole formula",
@@ -13,6 +13,9 @@ const KINDS: [&str; 19] = [
     "64 at a digit behind a bound of 0",
     "64 at the fifth digit of a bound",
     "64 at the sixth digit of a bound",
+    "64 at a digit behind an exact bound of 0",
+    "64 at the third digit of an exact bound",
+    "64 at the fourth digit of an exact bound",
     "64 at a space",
     "64 at a byte below 32",
     "64 at a byte above 126",
@@ -65,8 +68,10 @@ fn stopped(text: &[u8], place: usize) -> Vec<&'static str> {
 /// By the byte and those before it.
 fn stopped_at(byte: u8, before: &[u8]) -> Vec<&'static str> {
     let number = digits(before);
-    let label = before[..before.len() - number.len()].ends_with(b"L");
-    let (in_label, in_bound) = (byte.is_ascii_digit() && label, byte.is_ascii_digit() && !label);
+    let opening = &before[..before.len() - number.len()];
+    let is_digit = byte.is_ascii_digit();
+    let (in_label, in_exact) = (is_digit && opening.ends_with(b"L"), is_digit && opening.ends_with(b"=="));
+    let in_bound = is_digit && !in_label && !in_exact;
     only(&[
         (before.is_empty(), "64 at byte 0"),
         (is_formula(before), "64 behind a whole formula"),
@@ -74,6 +79,9 @@ fn stopped_at(byte: u8, before: &[u8]) -> Vec<&'static str> {
         (in_bound && number == b"0", "64 at a digit behind a bound of 0"),
         (in_bound && number.len() == 4, "64 at the fifth digit of a bound"),
         (in_bound && number.len() == 5, "64 at the sixth digit of a bound"),
+        (in_exact && number == b"0", "64 at a digit behind an exact bound of 0"),
+        (in_exact && number.len() == 2, "64 at the third digit of an exact bound"),
+        (in_exact && number.len() == 3, "64 at the fourth digit of an exact bound"),
         (byte == b' ', "64 at a space"),
         (byte < 32, "64 at a byte below 32"),
         (byte > 126, "64 at a byte above 126"),
@@ -129,6 +137,8 @@ mod tests {
         assert_eq!(read("L1", 15), ["label of one digit", "1 node", "output just enough"]);
         let until = ["true", "label of two digits", "A at least", "bound 65,535", "output to spare"];
         assert_eq!(read("A(true U>=65535 L10)", 32), until);
+        let exact = ["true", "label of two digits", "E exactly", "exactly 255", "output to spare"];
+        assert_eq!(read("E(true U==255 L10)", 32), exact);
         assert_eq!(read("!true", 22), ["output a byte short"]);
         assert_eq!(read("!true", 0), ["output empty"]);
         assert_eq!(read("", 9), ["64 where the text ends"]);
@@ -136,6 +146,9 @@ mod tests {
         assert_eq!(read("E(L1 U<=00", 9), ["64 at a digit behind a bound of 0"]);
         assert_eq!(read("E(L1 U<=65536", 9), ["64 at the fifth digit of a bound"]);
         assert_eq!(read("E(L1 U<=123456", 9), ["64 at the sixth digit of a bound"]);
+        assert_eq!(read("E(L1 U==01", 9), ["64 at a digit behind an exact bound of 0"]);
+        assert_eq!(read("E(L1 U==256", 9), ["64 at the third digit of an exact bound"]);
+        assert_eq!(read("E(L1 U==1000", 9), ["64 at the fourth digit of an exact bound"]);
         assert_eq!(read("( L1", 9), ["64 at a space"]);
         assert_eq!(read(&("!".repeat(70) + "\n"), 9), ["64 past 64 nodes", "64 at a byte below 32"]);
     }

@@ -2,29 +2,36 @@
 
 use oracle::fewest_steps;
 
-use crate::bytes::rule::{A, E};
+use crate::bytes::rule::{self, A, AT_LEAST, AT_MOST, E, EXACTLY};
 use crate::calls::compare::Answer;
 use crate::cases::case::Case;
 
-pub const KINDS: [&str; 30] = [
+pub const KINDS: [&str; 40] = [
     "E at most shown",
     "E at least shown",
+    "E exactly shown",
     "A at most shown",
     "unmarked E at most refused",
     "unmarked E at least refused",
+    "unmarked E exactly refused",
     "marked A at most refused",
     "marked A at least refused",
+    "marked A exactly refused",
     "unmarked A at least refused",
+    "unmarked A exactly refused",
     "node that is no until refused",
     "node out of range",
     "state out of range",
     "no step",
     "E at most, 255 steps",
     "E at least, 256 steps",
+    "E exactly, 256 steps",
     "A at most, 256 steps",
     "E at least, above 256 steps",
+    "E exactly, above 256 steps",
     "A at most, above 256 steps",
     "E past the second operand",
+    "E exactly, another position of the same moment before",
     "A up to where neither holds",
     "A up to above c",
     "A up to above c, the second operand there",
@@ -36,6 +43,9 @@ pub const KINDS: [&str; 30] = [
     "scratch of 257n − 1 numbers",
     "scratch of 4n numbers",
     "scratch of 4n − 1 numbers",
+    "exact bound, scratch of 256n numbers",
+    "exact bound, scratch of 256n − 1 numbers",
+    "exact bound, refused by 60",
     "refused by 60 with scratch and output short",
 ];
 
@@ -65,11 +75,14 @@ impl Asked<'_> {
             return "state out of range";
         }
         match (operation, kind, self.marked(self.node, self.state)) {
-            (E, 1, false) => "unmarked E at most refused",
-            (E, 2, false) => "unmarked E at least refused",
-            (A, 1, true) => "marked A at most refused",
-            (A, 2, true) => "marked A at least refused",
-            (A, 2, false) => "unmarked A at least refused",
+            (E, AT_MOST, false) => "unmarked E at most refused",
+            (E, AT_LEAST, false) => "unmarked E at least refused",
+            (E, EXACTLY, false) => "unmarked E exactly refused",
+            (A, AT_MOST, true) => "marked A at most refused",
+            (A, AT_LEAST, true) => "marked A at least refused",
+            (A, AT_LEAST, false) => "unmarked A at least refused",
+            (A, EXACTLY, true) => "marked A exactly refused",
+            (A, EXACTLY, false) => "unmarked A exactly refused",
             // Nothing that is to be met.
             (E | A, ..) => "a mark that has a run",
             _ => "node that is no until refused",
@@ -85,15 +98,17 @@ impl Asked<'_> {
         };
         let minutes: u64 = earlier.iter().map(|(_, duration)| duration).sum();
         let steps = earlier.len();
-        let mut met = vec![match (operation, kind) {
-            (E, 1) => "E at most shown",
-            (E, _) => "E at least shown",
-            _ => "A at most shown",
-        }];
+        let (shown, longest) = match (operation, kind) {
+            (E, AT_MOST) => ("E at most shown", (255, "E at most, 255 steps")),
+            (E, AT_LEAST) => ("E at least shown", (256, "E at least, 256 steps")),
+            (E, _) => ("E exactly shown", (256, "E exactly, 256 steps")),
+            _ => ("A at most shown", (256, "A at most, 256 steps")),
+        };
+        let mut met = vec![shown];
         met.extend((steps == 0).then_some("no step"));
-        met.extend((operation == E && kind == 1 && steps == 255).then_some("E at most, 255 steps"));
-        met.extend((operation == E && kind == 2 && steps == 256).then_some("E at least, 256 steps"));
-        met.extend((operation == A && steps == 256).then_some("A at most, 256 steps"));
+        met.extend((steps == longest.0).then_some(longest.1));
+        let same_moment = kind == EXACTLY && earlier.last().is_some_and(|&(_, duration)| duration == 0);
+        met.extend(same_moment.then_some("E exactly, another position of the same moment before"));
         let passed = earlier.iter().any(|&(state, _)| self.marked(second, state));
         met.extend((operation == E && passed).then_some("E past the second operand"));
         met.extend((operation == A && minutes <= c).then_some("A up to where neither holds"));
@@ -108,6 +123,7 @@ impl Asked<'_> {
     fn unfit(&self, output: usize, fewest: impl Fn() -> Option<usize>) -> Option<&'static str> {
         if output >= MAX_RUN {
             return match self.until {
+                Some((E, EXACTLY, ..)) => Some("E exactly, above 256 steps"),
                 Some((E, ..)) => Some("E at least, above 256 steps"),
                 _ => Some("A at most, above 256 steps"),
             };
@@ -121,6 +137,12 @@ impl Asked<'_> {
     }
 }
 
+/// The numbers that check wants before show does, and whether an exact bound makes them more.
+fn wanted_by_check(rule: &[u8], n: usize) -> (usize, bool) {
+    let wanted = rule::check_scratch(&rule::nodes(rule), n);
+    (wanted, wanted > 4 * n)
+}
+
 /// Those that a show met.
 pub fn kinds(case: &Case, answer: &Answer) -> Vec<&'static str> {
     let Case::Show { chart, rule, scratch, node, state, output, .. } = case else {
@@ -130,8 +152,9 @@ pub fn kinds(case: &Case, answer: &Answer) -> Vec<&'static str> {
         return Vec::new();
     };
     let n = chart.get(5..7).map_or(0, |two| usize::from(u16::from_be_bytes([two[0], two[1]])));
-    if outcome.number == 18 && scratch.length + 1 == 4 * n {
-        return vec!["scratch of 4n − 1 numbers"];
+    let (wanted, exact) = wanted_by_check(rule, n);
+    if outcome.number == 18 && scratch.length + 1 == wanted {
+        return vec![if exact { "exact bound, scratch of 256n − 1 numbers" } else { "scratch of 4n − 1 numbers" }];
     }
     if !matches!(outcome.number, 0 | 60..=62) {
         return Vec::new();
@@ -149,10 +172,12 @@ pub fn kinds(case: &Case, answer: &Answer) -> Vec<&'static str> {
         60 => {
             let short = scratch.length < 257 * n && output.length < 6;
             let both = short.then_some("refused by 60 with scratch and output short");
-            [Some(asked.refused()), both].into_iter().flatten().collect()
+            let exact = exact.then_some("exact bound, refused by 60");
+            [Some(asked.refused()), exact, both].into_iter().flatten().collect()
         }
         61 if scratch.length + 1 == 257 * n => vec!["scratch of 257n − 1 numbers"],
-        61 if scratch.length == 4 * n => vec!["scratch of 4n numbers"],
+        61 if scratch.length == wanted && exact => vec!["exact bound, scratch of 256n numbers"],
+        61 if scratch.length == wanted => vec!["scratch of 4n numbers"],
         62 => asked.unfit(output.length, || fewest_steps(chart, rule, *node, *state)).into_iter().collect(),
         _ => Vec::new(),
     }

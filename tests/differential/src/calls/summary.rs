@@ -1,16 +1,17 @@
-//! What was met: numbers and entries per call, marks per operation, kinds of rule, what the shows, counts, reads and
-//! writes met, and which loops the accepted charts had.
+//! What was met: numbers and entries per call, marks per form of a node, kinds of rule, what the checks of exact bounds, the
+//! shows, counts, reads and writes met, and which loops the accepted charts had.
 
+use crate::bytes::rule;
 use crate::calls::compare::{Answer, Kind, Part};
 use crate::calls::loops_met::LoopsMet;
+use crate::calls::marks_met::MarksMet;
 use crate::calls::met::Met;
 use crate::calls::numbers_met::{NumbersMet, NUMBERED};
 use crate::calls::outcome::Outcome;
 use crate::calls::short_met::ShortMet;
-use crate::calls::{count_met, read_met, show_met, write_met};
-use crate::cases::case::{Case, CALLS, COUNT, READ, ROW, SHOW, WRITE};
+use crate::calls::{count_met, exact_met, read_met, show_met, write_met};
+use crate::cases::case::{Case, CALLS, CHECK, COUNT, READ, ROW, SHOW, WRITE};
 
-const FORMS: [&str; 9] = ["true", "label", "not", "and", "or", "E at most", "E at least", "A at most", "A at least"];
 const KINDS: [Kind; 4] = [Kind::AllRuns, Kind::SomeRun, Kind::Both, Kind::Neither];
 
 /// From this many cases on, the random ones have to meet every number by themselves; so do the typed and written rules,
@@ -34,27 +35,17 @@ pub struct Summary {
     random: u64,
     typed: u64,
     pub numbers: NumbersMet,
-    /// Per form of a node: marks that are 1, marks in all.
-    marks: [[u64; 2]; 9],
+    marks: MarksMet,
     kinds: [u64; 4],
     parts: [u64; 2],
-    /// Of the random ones.
+    /// Of the random ones; the checks are those of exact bounds.
+    checks: Met,
     shows: Met,
     counts: Met,
     reads: Met,
     writes: Met,
     loops: LoopsMet,
     pub short: ShortMet,
-}
-
-fn form(operation: u8, kind: u8) -> usize {
-    match (operation, kind) {
-        (5, 1) => 5,
-        (5, _) => 6,
-        (6, 1) => 7,
-        (6, _) => 8,
-        (other, _) => other as usize,
-    }
 }
 
 impl Summary {
@@ -64,9 +55,10 @@ impl Summary {
             random: 0,
             typed: 0,
             numbers: NumbersMet::new(),
-            marks: [[0; 2]; 9],
+            marks: MarksMet::new(),
             kinds: [0; 4],
             parts: [0; 2],
+            checks: Met::of(exact_met::all()),
             shows: Met::of(show_met::KINDS),
             counts: Met::of(count_met::all()),
             reads: Met::of(read_met::all()),
@@ -91,12 +83,11 @@ impl Summary {
                 self.loops.add(case);
             }
         }
+        self.add_marks(case, answer);
         match (case, answer) {
-            (Case::Check { chart, rule, .. }, Answer::Check { outcome: Outcome::ACCEPTED, marks, .. }) => {
-                self.add_marks(chart, rule, marks)
-            }
             (_, Answer::Kind { outcome: Outcome::ACCEPTED, kind }) => self.kinds[*kind as usize] += 1,
             (_, Answer::Row(part)) => self.parts[(*part != Part::Empty) as usize] += 1,
+            (Case::Check { .. }, _) if random => self.checks.add(&exact_met::kinds(case, answer)),
             (Case::Show { .. }, _) if random => self.shows.add(&show_met::kinds(case, answer)),
             (Case::Count { .. }, _) if random => self.counts.add(&count_met::kinds(case, answer)),
             (Case::Read { .. }, _) if random => self.reads.add(&read_met::kinds(case, answer)),
@@ -105,18 +96,18 @@ impl Summary {
         }
     }
 
-    fn add_marks(&mut self, chart: &[u8], rule: &[u8], marks: &[u8]) {
-        // A wrong acceptance may come with bytes too short for either.
-        let (Some(&[high, low]), Some(nodes)) = (chart.get(5..7), rule.get(7..)) else {
+    fn add_marks(&mut self, case: &Case, answer: &Answer) {
+        let (Case::Check { chart, rule, .. } | Case::Count { chart, rule, .. }) = case else {
             return;
         };
-        let n = u16::from_be_bytes([high, low]).max(1) as usize;
-        for (node, row) in nodes.chunks_exact(8).zip(marks.chunks(n)) {
-            let Some(count) = self.marks.get_mut(form(node[0], node[1])) else {
-                continue;
-            };
-            count[0] += row.iter().filter(|&&mark| mark == 1).count() as u64;
-            count[1] += row.len() as u64;
+        let (Answer::Check { outcome: Outcome::ACCEPTED, marks, .. }
+        | Answer::Count { outcome: Outcome::ACCEPTED, marks, .. }) = answer
+        else {
+            return;
+        };
+        // A wrong acceptance may come with bytes too short for a count of states.
+        if let Some(&[high, low]) = chart.get(5..7) {
+            self.marks.add(case.call(), &rule::nodes(rule), marks, u16::from_be_bytes([high, low]).into());
         }
     }
 
@@ -126,19 +117,19 @@ impl Summary {
         random >= ENOUGH
     }
 
-    /// Each number with an entry that a call never met, each form whose marks were all alike, what no show, count, read
-    /// or write met, loops that no accepted chart had, and what the short texts never came to.
+    /// Each number with an entry that a call never met, each form whose marks were all alike, what no check of an exact
+    /// bound, show, count, read or write met, loops that no accepted chart had, and what the short texts never came to.
     pub fn missing(&self) -> Vec<String> {
         let mut missing = self.numbers.missing(|call| self.is_strict(call));
         for (kind, _) in KINDS.iter().zip(self.kinds).filter(|(_, met)| *met == 0) {
             missing.push(format!("kind {kind:?}"));
         }
+        missing.extend(self.marks.missing());
         if self.is_strict(SHOW) {
-            missing.extend(self.missing_marks());
             missing.extend(self.loops.missing());
             missing.extend(self.rare());
         }
-        for (call, met) in [(SHOW, &self.shows), (COUNT, &self.counts), (READ, &self.reads), (WRITE, &self.writes)] {
+        for (call, met) in self.met() {
             let strict = self.is_strict(call);
             missing.extend(met.missing().filter(|_| strict).map(|kind| format!("{}: {kind}", CALLS[call])));
         }
@@ -146,10 +137,9 @@ impl Summary {
         missing
     }
 
-    fn missing_marks(&self) -> Vec<String> {
-        let alike = |(_, [ones, all]): &(&&str, [u64; 2])| *ones == 0 || ones == all;
-        let forms = FORMS.iter().zip(self.marks).skip(1).filter(alike);
-        forms.map(|(form, _)| format!("both marks of {form}")).collect()
+    fn met(&self) -> [(usize, &Met); 5] {
+        let (checks, shows, counts) = ((CHECK, &self.checks), (SHOW, &self.shows), (COUNT, &self.counts));
+        [checks, shows, counts, (READ, &self.reads), (WRITE, &self.writes)]
     }
 
     /// What too few random cases are.
@@ -158,16 +148,8 @@ impl Summary {
         rare.map(|call| format!("a {} in {SHARE} random cases", CALLS[call])).collect()
     }
 
-    fn shares(&self) -> String {
-        let mut text = String::from("marks that are 1\n");
-        for (form, [ones, all]) in FORMS.iter().zip(self.marks) {
-            text += &format!("{form:>12}  {:>5.1} % of {all}\n", share(ones, all));
-        }
-        text
-    }
-
     pub fn text(&self) -> String {
-        let mut text = self.numbers.text() + &self.shares();
+        let mut text = self.numbers.text() + &self.marks.text();
         for call in NUMBERED {
             let (accepted, all) = (self.numbers.accepted(call), self.cases[call]);
             text += &format!("{:>12}  {all} cases, {:.1} % accepted\n", CALLS[call], share(accepted, all));
@@ -178,6 +160,7 @@ impl Summary {
             text += &format!("{:>12}  met {met} times\n", format!("{kind:?}"));
         }
         let (shows, counts, loops) = (self.shows.text(), self.counts.text(), self.loops.text());
+        text += &format!("checks of exact bounds met\n{}", self.checks.text());
         text += &format!("shows met\n{shows}counts met\n{counts}accepted random charts that have\n{loops}");
         text + &format!("reads met\n{}writes met\n{}{}", self.reads.text(), self.writes.text(), self.short.text())
     }

@@ -1,13 +1,11 @@
 //! Count: rows 63 and 17 to 19 of the refusal table, each with the neighbour that passes, and bounds of "at least 0".
 
 use crate::bytes::chart::{arrow, Chart};
-use crate::bytes::rule::{self, node, plain, Node, A, E, LABEL, NOT, TRUE};
+use crate::bytes::rule::{self, node, plain, Node, A, AT_LEAST, AT_MOST, E, EXACTLY, LABEL, NOT, TRUE};
 use crate::named::charts::List;
 use crate::named::expected::{add, count, exact_count, just_true, one, short, undo, Expected};
 
-pub const AT_MOST: u8 = 1;
-pub const AT_LEAST: u8 = 2;
-pub const UNTILS: [(u8, u8, &str); 4] =
+const UNTILS: [(u8, u8, &str); 4] =
     [(E, AT_MOST, "E at most"), (E, AT_LEAST, "E at least"), (A, AT_MOST, "A at most"), (A, AT_LEAST, "A at least")];
 
 /// true until true; node 2 is the until.
@@ -61,7 +59,7 @@ fn order(list: &mut List) {
     test("63 goes before 17 to 19", &still, &late, 63, 2, 3);
     test("17 goes where 63 is passed", &still, &always(E, AT_MOST, 255), 17, 0, 5);
     test("9 goes before 63", &bare, &late, 9, 1, 1);
-    test("14 goes before 63", &short(), &always(E, 3, 256), 14, 2, 3);
+    test("14 goes before 63", &short(), &always(E, EXACTLY, 256), 14, 2, 3);
     test("15 goes before 63", &short(), &[plain(TRUE, 0, 0), node(E, AT_MOST, 0, 1, 256)], 15, 1, 3);
     test("16 goes before 63", &short(), &[plain(TRUE, 0, 0), node(E, AT_MOST, 0, 0, 256)], 16, 0, 3);
     let unused = [late.clone(), just_true()].concat();

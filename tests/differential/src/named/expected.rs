@@ -116,7 +116,7 @@ pub fn check(chart: Vec<u8>, rule: Vec<u8>, marks: usize, scratch: usize) -> Cas
 /// A check with buffers that are exactly long enough.
 pub fn exact(chart: &Chart, nodes: &[Node]) -> Case {
     let n = chart.states();
-    check(chart.bytes(), rule::bytes(nodes), n * nodes.len(), 4 * n)
+    check(chart.bytes(), rule::bytes(nodes), n * nodes.len(), rule::check_scratch(nodes, n))
 }
 
 pub fn count(chart: Vec<u8>, rule: Vec<u8>, marks: usize, scratch: usize) -> Case {

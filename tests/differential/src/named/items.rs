@@ -1,13 +1,10 @@
 //! The thirteen items and the listing of the paper, kinds of rules and rows of tables.
 
 use crate::bytes::chart::{arrow, Chart, NO_END};
-use crate::bytes::rule::{self, node, plain, Node, A, AND, E, LABEL, NOT, OR, TRUE};
+use crate::bytes::rule::{self, node, plain, Node, A, AND, AT_LEAST, AT_MOST, E, EXACTLY, LABEL, NOT, OR, TRUE};
 use crate::calls::compare::Kind;
 use crate::cases::case::{Case, Table};
 use crate::named::expected::{add, exact, exact_count, one, row, short, undo, Expected, Named};
-
-const AT_MOST: u8 = 1;
-const AT_LEAST: u8 = 2;
 
 fn truth() -> Node {
     plain(TRUE, 0, 0)
@@ -100,6 +97,13 @@ fn kinds(list: &mut Vec<Named>) {
     kind(list, "A-until", &eventually(A, AT_MOST, 2, 5), Kind::AllRuns);
     kind(list, "E-until", &eventually(E, AT_LEAST, 2, 5), Kind::SomeRun);
     let until = |operation| node(operation, AT_MOST, 0, 1, 5);
+    kind(list, "A-until, exactly", &eventually(A, EXACTLY, 2, 5), Kind::AllRuns);
+    kind(list, "E-until, exactly", &eventually(E, EXACTLY, 2, 5), Kind::SomeRun);
+    let exactly = |operation, a| node(operation, EXACTLY, a, a + 1, 0);
+    let in_the_other = [truth(), truth(), exactly(A, 0), truth(), exactly(E, 2)];
+    kind(list, "E exactly over A exactly", &in_the_other, Kind::Neither);
+    let under_not = [truth(), truth(), exactly(A, 0), plain(NOT, 2, 0), truth(), exactly(E, 3)];
+    kind(list, "E exactly over not A exactly", &under_not, Kind::SomeRun);
     kind(list, "not A-until", &[truth(), truth(), until(A), plain(NOT, 2, 0)], Kind::SomeRun);
     kind(list, "not E-until", &[truth(), truth(), until(E), plain(NOT, 2, 0)], Kind::AllRuns);
     for (first, second, wanted) in [(A, A, Kind::AllRuns), (E, E, Kind::SomeRun), (A, E, Kind::Neither)] {

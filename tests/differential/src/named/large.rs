@@ -1,8 +1,8 @@
-//! The largest charts under large bounds, and under the greatest that is counted to. No marks are written for them: they
-//! are accepted, and both programs agree.
+//! The largest charts under large bounds, and under the greatest that is counted to, exact ones among them. No marks are
+//! written for them: they are accepted, and both programs agree.
 
 use crate::bytes::chart::{arrow, Arrow, Chart, NO_END};
-use crate::bytes::rule::{node, plain, Node, A, E, LABEL, OR};
+use crate::bytes::rule::{node, plain, Node, A, AT_LEAST, AT_MOST, E, EXACTLY, LABEL, OR};
 use crate::named::expected::{add, exact, exact_count, Expected, Named};
 use crate::random::rng::Rng;
 use crate::random::timelocks::let_time_pass;
@@ -13,18 +13,27 @@ const ARROWS: usize = 2_048;
 
 /// The states in 100 that have each label, label 1 being at the last state alone. Dense or rare so that the until of
 /// each two labels holds at some states and fails at others.
-const SHARES: [usize; 8] = [50, 0, 10, 50, 97, 80, 90, 98];
+const SHARES: [usize; 12] = [50, 0, 10, 50, 97, 80, 90, 98, 97, 5, 97, 98];
 
-/// The four untils, each over two labels of its own.
-fn four_untils(c: usize) -> Vec<Node> {
+const FOUR: [(u8, u8); 4] = [(E, AT_MOST), (E, AT_LEAST), (A, AT_MOST), (A, AT_LEAST)];
+const EXACT: [(u8, u8); 2] = [(E, EXACTLY), (A, EXACTLY)];
+
+/// The untils, each over two labels of its own, joined by or.
+fn joined(untils: &[(u8, u8)], c: usize) -> Vec<Node> {
     let mut nodes = Vec::new();
-    for (i, (operation, kind)) in [(E, 1), (E, 2), (A, 1), (A, 2)].into_iter().enumerate() {
-        nodes.push(plain(LABEL, 2 * i, 0));
-        nodes.push(plain(LABEL, 2 * i + 1, 0));
-        nodes.push(node(operation, kind, 3 * i, 3 * i + 1, c));
+    for (i, &(operation, kind)) in untils.iter().enumerate() {
+        let (before, first) = (nodes.len().wrapping_sub(1), nodes.len());
+        nodes.extend([plain(LABEL, 2 * i, 0), plain(LABEL, 2 * i + 1, 0)]);
+        nodes.push(node(operation, kind, first, first + 1, c));
+        if i > 0 {
+            nodes.push(plain(OR, before, first + 2));
+        }
     }
-    nodes.extend([plain(OR, 2, 5), plain(OR, 8, 11), plain(OR, 12, 13)]);
     nodes
+}
+
+fn six_untils(c: usize) -> Vec<Node> {
+    joined(&[&FOUR[..], &EXACT].concat(), c)
 }
 
 /// Slots within the given minutes; at times without end, if that is asked for. The upper half is not left again.
@@ -40,8 +49,8 @@ fn random(minutes: usize, no_end: bool) -> Chart {
     }
     let mut labels: Vec<u16> = (0..STATES).map(|_| word(&mut rng)).collect();
     labels[STATES - 1] |= 1 << 1;
-    // A at least: every run of the upper half keeps its first label.
-    labels[HALF..].iter_mut().for_each(|word| *word |= 1 << 6);
+    // A at least and exactly: every run of the upper half keeps its first label, and for exactly the second one too.
+    labels[HALF..].iter_mut().for_each(|word| *word |= 1 << 6 | 3 << 10);
     let mut chart = Chart { labels, arrows };
     let_time_pass(&mut rng, &mut chart);
     rng.shuffle(&mut chart.arrows);
@@ -106,15 +115,18 @@ fn rings(c: usize) -> Chart {
 
 fn test(list: &mut Vec<Named>, name: &str, chart: &Chart, c: usize) {
     let name = format!("large: {name}, bound {c}");
-    add(list, &name, exact(chart, &four_untils(c)), Expected::Outcome(0, 0, 0));
+    add(list, &name, exact(chart, &joined(&FOUR, c)), Expected::Outcome(0, 0, 0));
 }
 
-/// Of count, under the greatest bound.
+/// Of count, under the greatest bound; and of check, where exact bounds are counted to as well.
 fn counts(list: &mut Vec<Named>) {
     let c = 255;
     let mut test = |name: &str, chart: Chart| {
-        let case = exact_count(&chart, &four_untils(c));
-        add(list, &format!("large: {name}, count, bound {c}"), case, Expected::Outcome(0, 0, 0));
+        let accepted = || Expected::Outcome(0, 0, 0);
+        let case = exact_count(&chart, &six_untils(c));
+        add(list, &format!("large: {name}, count, bound {c}"), case, accepted());
+        let case = exact(&chart, &six_untils(c));
+        add(list, &format!("large: {name}, exact ones too, bound {c}"), case, accepted());
     };
     for minutes in [5, 150] {
         test(&format!("random up to {minutes} minutes or no end"), random(minutes, true));
@@ -124,6 +136,8 @@ fn counts(list: &mut Vec<Named>) {
     test("zigzag", zigzag(c, STATES - 1));
     test("zigzag-loop", zigzag(c, 0));
     test("rings", rings(c));
+    // No step takes more than a minute, so that every minute comes along every run.
+    test("random up to 1 minute", random(1, false));
 }
 
 pub fn all(list: &mut Vec<Named>) {

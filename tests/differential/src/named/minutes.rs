@@ -1,28 +1,66 @@
-//! Counts whose marks turn at one minute: bounds at both ends of a slot, and arrows of no time in a row.
+//! Counts whose marks turn at one minute: bounds at both ends of a slot, and arrows of no time in a row. Exact bounds by
+//! check too.
 
 use crate::bytes::chart::{arrow, Chart, NO_END};
-use crate::bytes::rule::E;
+use crate::bytes::rule::{A, AT_LEAST, AT_MOST, E, EXACTLY};
 use crate::named::charts::List;
-use crate::named::counts::{first_until_second, AT_LEAST, AT_MOST, UNTILS};
-use crate::named::expected::{add, exact_count, Expected};
+use crate::named::counts::first_until_second;
+use crate::named::expected::{add, exact, exact_count, Expected};
+
+const UNTILS: [(u8, u8, &str); 6] = [
+    (E, AT_MOST, "E at most"),
+    (E, AT_LEAST, "E at least"),
+    (A, AT_MOST, "A at most"),
+    (A, AT_LEAST, "A at least"),
+    (E, EXACTLY, "E exactly"),
+    (A, EXACTLY, "A exactly"),
+];
+
+/// L0 until L1.
+fn counted(list: &mut List, name: &str, chart: &Chart, (operation, kind): (u8, u8), c: usize, marks: &'static str) {
+    let nodes = first_until_second(operation, kind, c);
+    add(list, name, exact_count(chart, &nodes), Expected::Last(marks));
+    if kind == EXACTLY {
+        add(list, &format!("{name}, check"), exact(chart, &nodes), Expected::Last(marks));
+    }
+}
 
 /// State 0 leads to state 1 by one arrow of this slot; label 0 at state 0, label 1 at state 1.
 fn window(list: &mut List, slot: (u16, u16), until: usize, c: usize, marks: &'static str) {
     let chart = Chart { labels: vec![1, 2], arrows: vec![arrow(0, 1, slot.0, slot.1), arrow(1, 1, 1, 1)] };
     let (operation, kind, until) = UNTILS[until];
     let most = if slot.1 == NO_END { "no end".into() } else { slot.1.to_string() };
-    let case = exact_count(&chart, &first_until_second(operation, kind, c));
-    add(list, &format!("{} to {most}, {until} {c}", slot.0), case, Expected::Last(marks));
+    counted(list, &format!("{} to {most}, {until} {c}", slot.0), &chart, (operation, kind), c, marks);
 }
 
 /// A minute below the slot, at its fewest, at its most, a minute above; by `UNTILS`.
-const WIDE: [[&str; 4]; 4] =
-    [["01", "11", "11", "11"], ["10", "10", "10", "00"], ["01", "01", "11", "11"], ["10", "10", "00", "00"]];
-const SINGLE: [[&str; 3]; 4] = [["01", "11", "11"], ["10", "10", "00"], ["01", "11", "11"], ["10", "10", "00"]];
+const WIDE: [[&str; 4]; 6] = [
+    ["01", "11", "11", "11"],
+    ["10", "10", "10", "00"],
+    ["01", "01", "11", "11"],
+    ["10", "10", "00", "00"],
+    ["00", "10", "10", "00"],
+    ["00", "00", "00", "00"],
+];
+const SINGLE: [[&str; 3]; 6] = [
+    ["01", "11", "11"],
+    ["10", "10", "00"],
+    ["01", "11", "11"],
+    ["10", "10", "00"],
+    ["00", "10", "00"],
+    ["00", "10", "00"],
+];
 /// A minute below, at the fewest, and under the greatest bound.
-const NO_MOST: [[&str; 3]; 4] = [["01", "11", "11"], ["10", "10", "10"], ["01", "01", "01"], ["10", "10", "00"]];
+const NO_MOST: [[&str; 3]; 6] = [
+    ["01", "11", "11"],
+    ["10", "10", "10"],
+    ["01", "01", "01"],
+    ["10", "10", "00"],
+    ["00", "10", "10"],
+    ["00", "00", "00"],
+];
 /// At the fewest, which is 0, and a minute above it.
-const FROM_0: [[&str; 2]; 4] = [["11", "11"], ["11", "10"], ["01", "01"], ["11", "00"]];
+const FROM_0: [[&str; 2]; 6] = [["11", "11"], ["11", "10"], ["01", "01"], ["11", "00"], ["11", "10"], ["01", "00"]];
 
 fn windows(list: &mut List) {
     let mut test = |slot, bounds: &[usize], until, marks: &[&'static str]| {
@@ -70,8 +108,7 @@ fn lined(list: &mut List, name: &str, slots: &[(u16, u16)], kind: u8, c: usize, 
         against.arrows.reverse();
         for (listed, chart) in [("along the list", &along), ("against the list", &against)] {
             for (operation, _, until) in UNTILS.into_iter().filter(|until| until.1 == kind) {
-                let case = exact_count(chart, &first_until_second(operation, kind, c));
-                add(list, &format!("{name}, {listed}{numbers}, {until} {c}"), case, Expected::Last(marks));
+                counted(list, &format!("{name}, {listed}{numbers}, {until} {c}"), chart, (operation, kind), c, marks);
             }
         }
     }
@@ -93,6 +130,15 @@ fn no_time(list: &mut List) {
     lined(list, "no time, twice", &twice, AT_MOST, 3, ["111111111"; 2]);
     lined(list, "no time, twice", &twice, AT_LEAST, 1, ["111110000", "000011111"]);
     lined(list, "no time, twice", &twice, AT_LEAST, 3, ["100000000", "000000001"]);
+    lined(list, "no time", &at_once, EXACTLY, 0, ["11111"; 2]);
+    lined(list, "no time", &at_once, EXACTLY, 1, ["00000"; 2]);
+    lined(list, "no time, then 2", &late, EXACTLY, 1, ["00000"; 2]);
+    lined(list, "no time, then 2", &late, EXACTLY, 2, ["11110", "01111"]);
+    lined(list, "no time, then 2", &late, EXACTLY, 3, ["00000"; 2]);
+    lined(list, "no time, twice", &twice, EXACTLY, 0, ["000001111", "111100000"]);
+    lined(list, "no time, twice", &twice, EXACTLY, 1, ["011110000", "000011110"]);
+    lined(list, "no time, twice", &twice, EXACTLY, 2, ["000000000"; 2]);
+    lined(list, "no time, twice", &twice, EXACTLY, 3, ["100000000", "000000001"]);
 }
 
 /// An arrow of 0 to 1 stays within the minute, or doesn't.
@@ -100,8 +146,7 @@ fn no_time_at_will(list: &mut List) {
     let chart = line(&[(0, 1); 3]);
     let mut test = |until: usize, c: usize, marks| {
         let (operation, kind, name) = UNTILS[until];
-        let case = exact_count(&chart, &first_until_second(operation, kind, c));
-        add(list, &format!("0 to 1 in a row, {name} {c}"), case, Expected::Last(marks));
+        counted(list, &format!("0 to 1 in a row, {name} {c}"), &chart, (operation, kind), c, marks);
     };
     test(0, 0, "1111");
     test(1, 3, "1000");
@@ -111,6 +156,12 @@ fn no_time_at_will(list: &mut List) {
     test(2, 3, "1111");
     test(3, 0, "1111");
     test(3, 1, "0000");
+    test(4, 0, "1111");
+    test(4, 1, "1110");
+    test(4, 3, "1000");
+    test(4, 4, "0000");
+    test(5, 0, "0001");
+    test(5, 1, "0000");
 }
 
 /// All states in one row of no time, under the greatest bound.

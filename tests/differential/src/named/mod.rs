@@ -2,6 +2,9 @@
 
 pub mod charts;
 pub mod counts;
+pub mod exact_marks;
+pub mod exact_rows;
+pub mod exact_shows;
 pub mod expected;
 pub mod items;
 pub mod large;

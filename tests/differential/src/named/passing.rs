@@ -2,9 +2,9 @@
 //! one moment for ever is no run, going round a loop with most above 0 is one.
 
 use crate::bytes::chart::{arrow, Chart, NO_END};
-use crate::bytes::rule::{node, plain, Node, A, E, LABEL, NOT, TRUE};
+use crate::bytes::rule::{node, plain, Node, A, AT_LEAST, AT_MOST, E, LABEL, NOT, TRUE};
 use crate::named::charts::List;
-use crate::named::counts::{first_until_second, AT_LEAST, AT_MOST};
+use crate::named::counts::first_until_second;
 use crate::named::expected::{add, exact, exact_count, undo, Expected};
 
 /// true until L0

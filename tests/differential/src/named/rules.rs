@@ -1,6 +1,6 @@
 //! Rows 10 to 16 of the refusal table, each with the neighbour that passes.
 
-use crate::bytes::rule::{self, node, plain, Node, A, AND, E, LABEL, NOT, OR, TRUE};
+use crate::bytes::rule::{self, node, plain, Node, A, AND, E, EXACTLY, LABEL, NOT, OR, TRUE};
 use crate::cases::case::Case;
 use crate::named::charts::{resized, with_first, List, NO_UNTIL};
 use crate::named::expected::{accepted_or, add, check, count, just_true, short, show, write, Expected};
@@ -17,7 +17,8 @@ fn counted(rule: &[u8], of_check: Expected) -> Expected {
 /// A rule in check, in count and in show over Short, in kind of rule and in write.
 fn rule_row(list: &mut List, name: &str, rule: Vec<u8>, number: u32, place: u32) {
     let told = || accepted_or(number, place, 3);
-    let as_check = check(short().bytes(), rule.clone(), 64 * 3, 12);
+    let scratch = rule::check_scratch(&rule::nodes(&rule), 3);
+    let as_check = check(short().bytes(), rule.clone(), 64 * 3, scratch);
     add(list, &format!("{name}, check"), as_check, told());
     let as_count = count(short().bytes(), rule.clone(), 64 * 3, 256 * 3);
     add(list, &format!("{name}, count"), as_count, counted(&rule, told()));
@@ -72,7 +73,7 @@ fn form(list: &mut List, name: &str, last: Node, number: u32) {
 }
 
 /// The right form of each operation.
-fn forms() -> [Node; 9] {
+fn forms() -> [Node; 13] {
     [
         plain(TRUE, 0, 0),
         plain(LABEL, 15, 0),
@@ -81,8 +82,12 @@ fn forms() -> [Node; 9] {
         plain(OR, 0, 1),
         node(E, 1, 0, 1, 65_535),
         node(E, 2, 0, 1, 0),
+        node(E, EXACTLY, 0, 1, 0),
+        node(E, EXACTLY, 0, 1, 255),
         node(A, 1, 0, 1, 0),
         node(A, 2, 0, 1, 65_535),
+        node(A, EXACTLY, 0, 1, 0),
+        node(A, EXACTLY, 0, 1, 255),
     ]
 }
 
@@ -95,7 +100,7 @@ fn rule_forms(list: &mut List) {
     for right in forms() {
         form(list, "row 14 passed: right form", right, 0);
         let until = right.operation == E || right.operation == A;
-        let wrong_kinds: &[u8] = if until { &[0, 3, 255] } else { &[1, 2, 255] };
+        let wrong_kinds: &[u8] = if until { &[0, 4, 131, 255] } else { &[1, 2, 3, 255] };
         for &kind in wrong_kinds {
             form(list, "row 14: wrong kind", Node { kind, ..right }, 14);
         }
@@ -108,17 +113,21 @@ fn rule_forms(list: &mut List) {
         if !until {
             form(list, "row 14: c not 0", Node { c: 1, ..right }, 14);
         }
+        if right.kind == EXACTLY {
+            form(list, "row 14: exactly above 255", Node { c: right.c + 256, ..right }, 14);
+        }
     }
 }
 
 /// No byte above 6 is taken for an operation, whichever operation's fields it comes with.
 fn unknown_operations(list: &mut List) {
-    // Or and A have the fields of and and E.
-    let others = forms().into_iter().filter(|right| right.operation != OR && right.operation != A);
+    // Or and A have the fields of and and E; of the exact bounds one is enough.
+    let one_exact = |right: &Node| right.kind != EXACTLY || right.c > 0;
+    let others = forms().into_iter().filter(|right| right.operation != OR && right.operation != A).filter(one_exact);
     for (right, operation) in others.flat_map(|right| (7..=255).map(move |operation| (right, operation))) {
         let (mut nodes, place) = ended_by(right);
         nodes[place as usize].operation = operation;
-        let name = format!("row 14: operation {operation} with the fields of {}", right.operation);
+        let name = format!("row 14: operation {operation} with the fields of {}, kind {}", right.operation, right.kind);
         add(list, &name, Case::Kind { rule: rule::bytes(&nodes) }, Expected::Outcome(14, place, 3));
     }
 }

@@ -2,14 +2,11 @@
 //! passes.
 
 use crate::bytes::chart::{arrow, Chart, NO_END};
-use crate::bytes::rule::{self, node, plain, Node, A, AND, E, LABEL, NOT, TRUE};
+use crate::bytes::rule::{self, node, plain, Node, A, AND, AT_LEAST, AT_MOST, E, LABEL, NOT, TRUE};
 use crate::cases::case::Case;
 use crate::named::charts::List;
 use crate::named::expected::{add, loops, one, short, show, Expected};
 use crate::named::passing::{handing, staying, turning};
-
-const AT_MOST: u8 = 1;
-const AT_LEAST: u8 = 2;
 
 /// true until L(number); node 2 is the until.
 fn eventually(operation: u8, kind: u8, number: usize, c: usize) -> Vec<Node> {

@@ -48,7 +48,7 @@ fn forms(list: &mut List) {
     taken(list, "(L0 & true)", vec![label(0), yes(), plain(AND, 0, 1)]);
     taken(list, "(true | L0)", vec![yes(), label(0), plain(OR, 0, 1)]);
     for (letter, operation) in [("E", E), ("A", A)] {
-        for (sign, kind) in [("<=", 1), (">=", 2)] {
+        for (sign, kind) in [("<=", 1), (">=", 2), ("==", 3)] {
             let nodes = vec![label(3), label(4), node(operation, kind, 0, 1, 7)];
             taken(list, &format!("{letter}(L3 U{sign}7 L4)"), nodes);
         }
@@ -81,6 +81,49 @@ fn numbers(list: &mut List) {
     }
     stops(list, "A(true U<=65536", 14);
     stops(list, "A(true U<=6553", 14);
+}
+
+/// "c above 255 there is refused": at the digit that no such bound goes on with.
+fn exact_bounds(list: &mut List) {
+    for c in [0, 1, 9, 10, 14, 25, 99, 100, 199, 200, 249, 250, 254, 255] {
+        let nodes = vec![yes(), label(2), node(A, 3, 0, 1, c)];
+        taken(list, &format!("A(true U=={c} L2)"), nodes);
+    }
+    for c in (256..=260).chain([300, 310, 399, 400, 999]) {
+        stops(list, format!("A(true U=={c} L2)"), 12);
+    }
+    for c in ["1000", "1001", "2500", "2550", "2555"] {
+        stops(list, format!("A(true U=={c} L2)"), 13);
+    }
+    for digit in 0..=9 {
+        stops(list, format!("A(true U==0{digit} L2)"), 11);
+        stops(list, format!("E(L0 U==255{digit} L1)"), 11);
+    }
+    stops(list, "A(E(L0 U==255 L1) U<=256 E(L1 U==256 L2))", 35);
+}
+
+/// The second "=" and the digits behind it, each where it is to stand.
+fn exact_signs(list: &mut List) {
+    for (text, place) in [
+        ("A(true U==256", 12),
+        ("A(true U==25", 12),
+        ("A(true U==2", 11),
+        ("A(true U==", 10),
+        ("A(true U=", 9),
+        ("A(true U=14 L2)", 9),
+        ("A(true U=<14 L2)", 9),
+        ("A(true U===14 L2)", 10),
+        ("A(true U==-1 L2)", 10),
+        ("A(true U== 14 L2)", 10),
+        ("A(true U= =14 L2)", 9),
+        ("A(true U ==14 L2)", 8),
+        ("A(trueU==14 L2)", 6),
+        ("A(true U==14L2)", 12),
+        ("(L0U==256L1)", 3),
+        ("(L0 U==5 L1)", 4),
+    ] {
+        stops(list, text, place);
+    }
 }
 
 /// One on each side of &, | and the until with its bound, none elsewhere.
@@ -132,12 +175,9 @@ fn words(list: &mut List) {
         ("E!L0", 1),
         ("E(L0 u<=3 L1)", 5),
         ("E(L0 U<3 L1)", 7),
-        ("E(L0 U=<3 L1)", 6),
+        ("E(L0 U=<3 L1)", 7),
         ("E(L0 U<==3 L1)", 8),
         ("E(L0 U<=>3 L1)", 8),
-        // Exact bounds are another paper's.
-        ("A(true U==14 L2)", 8),
-        ("A(true U=14 L2)", 8),
     ] {
         stops(list, text, place);
     }
@@ -184,6 +224,8 @@ pub fn all(list: &mut List) {
     papers(list);
     forms(list);
     numbers(list);
+    exact_bounds(list);
+    exact_signs(list);
     spaces(list);
     words(list);
     ends(list);

@@ -36,6 +36,10 @@ fn forms(list: &mut List) {
                 told(list, &nodes, &format!("{letter}(true U{sign}{c} L2)"));
             }
         }
+        for c in [0, 7, 10, 99, 100, 255] {
+            let nodes = [yes(), label(2), node(operation, 3, 0, 1, c)];
+            told(list, &nodes, &format!("{letter}(true U=={c} L2)"));
+        }
     }
 }
 
@@ -43,6 +47,7 @@ fn forms(list: &mut List) {
 fn orders(list: &mut List) {
     told(list, &[label(1), yes(), plain(AND, 1, 0)], "(true & L1)");
     told(list, &[label(2), yes(), node(A, 1, 1, 0, 14)], "A(true U<=14 L2)");
+    told(list, &[label(2), yes(), node(E, 3, 1, 0, 14)], "E(true U==14 L2)");
     let between = [label(0), label(1), label(2), plain(NOT, 1, 0), node(E, 1, 2, 0, 3), plain(OR, 3, 4)];
     told(list, &between, "(!L1 | E(L2 U<=3 L0))");
     let late = [yes(), yes(), label(5), plain(NOT, 0, 0), plain(AND, 1, 2), plain(OR, 4, 3), plain(NOT, 5, 0)];

@@ -1,7 +1,7 @@
 //! The longest files that are accepted, and those of which only the first bytes are read: what they state decides.
 
 use crate::bytes::chart::{arrow, Arrow, Chart, NO_END};
-use crate::bytes::rule::{self, node, plain, Node, E, LABEL, NOT, TRUE};
+use crate::bytes::rule::{self, node, plain, Node, AT_MOST, E, EXACTLY, LABEL, NOT, TRUE};
 use crate::named::expected::{just_true, short};
 use crate::named::rules::nots;
 use crate::programs::limits::{add, calls, files, List, SHORT_CALLS};
@@ -22,19 +22,21 @@ fn longest_chart() -> Chart {
     Chart { labels, arrows }
 }
 
-/// E(true until label 0, at most 100), then not after not.
-fn longest_rule() -> Vec<Node> {
-    let mut nodes = vec![plain(TRUE, 0, 0), plain(LABEL, 0, 0), node(E, 1, 0, 1, 100)];
+/// E(true until label 0) with a bound of 100, then not after not.
+fn longest_rule(kind: u8) -> Vec<Node> {
+    let mut nodes = vec![plain(TRUE, 0, 0), plain(LABEL, 0, 0), node(E, kind, 0, 1, 100)];
     nodes.extend((3..64).map(|t| plain(NOT, t - 1, 0)));
     nodes
 }
 
-/// State 255 is 100 minutes away from state 155.
-fn longest_listing() -> String {
+/// State 255 is 100 minutes away from state 155, or more; it is itself come to again after 256.
+fn longest_listing(kind: u8) -> String {
     let (zeros, ones) = (|n| "0".repeat(n), |n| "1".repeat(n));
     let mut text = format!("states 256 nodes 64\n0 {}\n1 {}1\n", ones(256), zeros(255));
+    let last = kind == AT_MOST;
     for t in 2..64 {
-        let row = if t % 2 == 0 { zeros(155) + &ones(101) } else { ones(155) + &zeros(101) };
+        let [no, yes] = if t % 2 == 0 { ["0", "1"] } else { ["1", "0"] };
+        let row = no.repeat(155) + &yes.repeat(100) + if last { yes } else { no };
         text += &format!("{t} {row}\n");
     }
     text
@@ -77,9 +79,11 @@ fn rules(list: &mut List) {
 }
 
 fn both_long(list: &mut List) {
-    let (chart, rule) = (longest_chart(), rule::bytes(&longest_rule()));
-    let both = files(chart.bytes(), rule.clone());
-    add(list, "the longest chart and rule", both, &longest_listing(), calls(&[], &chart.arrows));
+    let (chart, rule) = (longest_chart(), rule::bytes(&longest_rule(AT_MOST)));
+    for (name, kind) in [("the longest chart and rule", AT_MOST), ("the longest, and an exact bound", EXACTLY)] {
+        let both = files(chart.bytes(), rule::bytes(&longest_rule(kind)));
+        add(list, name, both, &longest_listing(kind), calls(&[], &chart.arrows));
+    }
     let longer = stating(rule, 520, 519);
     let both = files(chart.bytes(), longer.clone());
     add(list, "the longest chart, a rule too long", both, "refused 12 at 0 3\n", calls(&[], &chart.arrows));

@@ -1,7 +1,7 @@
 //! Runs that desk_why has to print: the paper's, those about the most steps, and the longest durations.
 
 use crate::bytes::chart::{arrow, Chart, NO_END};
-use crate::bytes::rule::{self, node, plain, Node, A, E, LABEL, TRUE};
+use crate::bytes::rule::{self, node, plain, Node, A, E, EXACTLY, LABEL, TRUE};
 use crate::named::expected::{one, short};
 use crate::named::passing::{handing, staying, turning};
 use crate::programs::files::{Files, Pair};
@@ -35,6 +35,22 @@ fn of_short(list: &mut List) {
     test("A, unmarked, at most 13", (A, 13), "011", 0, late);
 }
 
+/// Exactly so many minutes; A has no run.
+fn exactly(list: &mut List) {
+    let mut test = |name: &str, (operation, c): (u8, usize), marks: &str, state, run: Option<&str>| {
+        let both = files(short().bytes(), rule::bytes(&eventually(operation, EXACTLY, 2, c)));
+        let listing = format!("states 3 nodes 3\n0 111\n1 001\n2 {marks}\n");
+        add(list, &format!("{name}, exactly {c}"), both, [listing, SHORT_CALLS.into()], state, run);
+    };
+    let met = "0 at 0: 10 minutes to 1\n1 at 10: 4 minutes to 2\n2 at 14: until met at 14\n";
+    test("E", (E, 14), "100", 0, Some(met));
+    test("E, several runs", (E, 8), "100", 0, None);
+    test("E, no step", (E, 0), "011", 2, Some("2 at 0: until met at 0\n"));
+    test("E, unmarked", (E, 15), "000", 0, Some("refused 60 at 0 3\n"));
+    test("A, unmarked", (A, 14), "000", 0, Some("refused 60 at 0 3\n"));
+    test("A, marked", (A, 0), "001", 2, Some("refused 60 at 0 3\n"));
+}
+
 /// From a state to itself alone: the fewest steps are the bound's.
 fn of_one(list: &mut List) {
     let waited = |steps: usize| (0..steps).map(|i| format!("0 at {i}: 1 minutes to 0\n")).collect::<String>();
@@ -45,6 +61,8 @@ fn of_one(list: &mut List) {
         add(list, name, both, [listing, calls(&[], &one().arrows)], 0, Some(run));
     };
     let at_least = |c| [plain(TRUE, 0, 0), plain(TRUE, 0, 0), node(E, 2, 0, 1, c)];
+    let exactly = |c| [plain(TRUE, 0, 0), plain(TRUE, 0, 0), node(E, EXACTLY, 0, 1, c)];
+    test("255 steps, exactly", &exactly(255), [1, 1, 1], &(waited(255) + "0 at 255: until met at 255\n"));
     test("256 steps", &at_least(256), [1, 1, 1], &(waited(256) + "0 at 256: until met at 256\n"));
     test("above 256 steps", &at_least(257), [1, 1, 1], "refused 62 at 0 5\n");
     test("A, 256 steps", &eventually(A, 1, 0, 255), [1, 0, 0], &(waited(256) + "0 at 256: above 255\n"));
@@ -86,6 +104,7 @@ fn in_no_time(list: &mut List) {
 
 pub fn all(list: &mut List) {
     of_short(list);
+    exactly(list);
     of_one(list);
     of_others(list);
     in_no_time(list);

@@ -1,8 +1,11 @@
 //! What the random pairs of files led to.
 
+use oracle::RULE_READ;
+
+use crate::bytes::rule::{self, EXACTLY};
 use crate::programs::files::Files;
 
-const KINDS: [&str; 11] = [
+const KINDS: [&str; 12] = [
     "listings",
     "refusals of the chart",
     "refusals of the rule",
@@ -14,6 +17,7 @@ const KINDS: [&str; 11] = [
     "detail rows empty",
     "runs shown",
     "runs refused by 60",
+    "listings of a rule with an exact bound",
 ];
 
 #[derive(Default)]
@@ -43,6 +47,11 @@ fn of_row(files: &Files, calls: &str) -> usize {
     5 + 2 * usize::from(detail) + usize::from(empty)
 }
 
+fn of_exact_bound(files: &Files, listing: &str) -> Option<usize> {
+    let exact = rule::nodes(files.rule.read(RULE_READ)).iter().any(|node| node.kind == EXACTLY);
+    (exact && listing.starts_with("states ")).then_some(11)
+}
+
 /// None where check refuses, or no run fits.
 fn of_why(why: &str) -> Option<usize> {
     if why == "refused 60 at 0 3\n" {
@@ -53,7 +62,8 @@ fn of_why(why: &str) -> Option<usize> {
 
 impl Met {
     pub fn add(&mut self, files: &Files, [listing, calls]: &[String; 2], why: &str) {
-        for kind in [of_listing(listing), of_reader(calls), of_row(files, calls)].into_iter().chain(of_why(why)) {
+        let always = [of_listing(listing), of_reader(calls), of_row(files, calls)];
+        for kind in always.into_iter().chain(of_why(why)).chain(of_exact_bound(files, listing)) {
             self.0[kind] += 1;
         }
     }
@@ -71,7 +81,7 @@ impl Met {
 #[cfg(test)]
 mod tests {
     use super::Met;
-    use crate::bytes::rule;
+    use crate::bytes::rule::{self, node, plain, A, TRUE};
     use crate::named::expected::{just_true, short};
     use crate::programs::asks;
     use crate::programs::files::{Files, Stored};
@@ -94,6 +104,9 @@ mod tests {
         assert_eq!(no_chart, ["refusals of the chart", "charts finished at once", "detail rows found"]);
         let no_rule = met(chart.clone(), vec![], asks::bytes(255, 1, 0), "refused 10 at 0 3\n");
         assert_eq!(no_rule, ["refusals of the rule", "charts read", "detail rows empty"]);
+        let exact = rule::bytes(&[plain(TRUE, 0, 0), plain(TRUE, 0, 0), node(A, 3, 0, 1, 5)]);
+        let listed = met(chart.clone(), exact, asks::bytes(0, 1, 0), "refused 61 at 0 5\n");
+        assert_eq!(listed[3..], ["listings of a rule with an exact bound"]);
         let nothing_asked = met(chart, rule, vec![], "refused 60 at 0 3\n");
         assert_eq!(nothing_asked, ["listings", "charts read", "overview rows empty", "runs refused by 60"]);
     }

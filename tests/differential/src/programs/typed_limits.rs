@@ -66,6 +66,11 @@ fn refusals(list: &mut List) {
     add(list, "L16", once("L16\n"), refused(64, 2, "L16"));
     add(list, "L15", once("L15\n"), accepted(&[plain(LABEL, 15, 0)], "L15"));
     add(list, "a leading zero", once("A(true U<=007 L2)\n"), refused(64, 11, "A(true U<=007 L2)"));
+    let exactly = |c| vec![plain(TRUE, 0, 0), plain(LABEL, 2, 0), node(A, 3, 0, 1, c)];
+    add(list, "exactly 0", once("A(true U==0 L2)\n"), accepted(&exactly(0), "A(true U==0 L2)"));
+    add(list, "exactly 255", once("A(true U==255 L2)\n"), accepted(&exactly(255), "A(true U==255 L2)"));
+    add(list, "exactly 256", once("A(true U==256 L2)\n"), refused(64, 12, "A(true U==256 L2)"));
+    add(list, "a single sign", once("A(true U=14 L2)\n"), refused(64, 9, "A(true U=14 L2)"));
     add(list, "a text that stops", once("A(true\n"), refused(64, 6, "A(true"));
     add(list, "a byte above 127", once(b"L\xB2\n"), refused(64, 1, b"L\xB2"));
     add(list, "bytes that can't be shown", once(b"!\0\x1F\x7F\x80\n"), refused(64, 1, b"!???\x80"));
@@ -152,7 +157,9 @@ fn rules(list: &mut List) {
     test("two nodes stated", with(6, 2), "refused 13 at 0 3");
     test("label 16", with(18, 16), "refused 14 at 1 3");
     test("label 15", with(18, 15), "A(true U<=14 L15)");
-    test("kind 3", with(24, 3), "refused 14 at 2 3");
+    test("kind 3", with(24, 3), "A(true U==14 L2)");
+    test("kind 4", with(24, 4), "refused 14 at 2 3");
+    test("kind 3 with c = 270", [&with(24, 3)[..29], &[1, 14]].concat(), "refused 14 at 2 3");
     test("an operand that is its node", with(28, 2), "refused 15 at 2 3");
     test("an operand twice", with(28, 0), "refused 16 at 0 3");
     test("65 nodes", rule::bytes(&[plain(TRUE, 0, 0); 65]), "refused 12 at 0 3");

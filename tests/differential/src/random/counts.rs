@@ -2,8 +2,9 @@
 //! enough.
 
 use crate::bytes::chart::{self, Chart};
-use crate::bytes::rule::{self, node, plain, Node, A, E, LABEL, NOT, TRUE};
+use crate::bytes::rule::{self, node, plain, Node, A, AT_LEAST, AT_MOST, E, EXACTLY, LABEL, NOT, TRUE};
 use crate::cases::case::{Case, Lent};
+use crate::random::exact_lines;
 use crate::random::faults;
 use crate::random::generate::{damaged_check, lent};
 use crate::random::rng::Rng;
@@ -32,9 +33,9 @@ fn past(rng: &mut Rng) -> u16 {
     rng.pick(&[256, 256, 256, 257, 256 + little, 512 + little, u16::MAX])
 }
 
-/// Now and then an until's bound is past the greatest, or two are.
+/// Now and then an until's bound is past the greatest, or two are. An exact one would be refused for its form.
 fn bounds_past(rng: &mut Rng, rule: &mut [Node]) -> bool {
-    let untils: Vec<usize> = (0..rule.len()).filter(|&t| is_until(&rule[t])).collect();
+    let untils: Vec<usize> = (0..rule.len()).filter(|&t| is_until(&rule[t]) && rule[t].kind != EXACTLY).collect();
     if untils.is_empty() || !rng.percent(6) {
         return false;
     }
@@ -76,13 +77,10 @@ fn small(rng: &mut Rng) -> Case {
     whole(rng, &chart, rule)
 }
 
-/// Label 0, or true, until label 1; at times under a not, or within another such until.
-fn until_rule(rng: &mut Rng, c: u16) -> Vec<Node> {
+/// Label 0, or true, until label 1 with a bound of one of the kinds; at times under a not, or within another such until.
+fn until_rule(rng: &mut Rng, c: u16, kinds: &[u8]) -> Vec<Node> {
     let first = rng.pick(&[plain(LABEL, 0, 0), plain(LABEL, 0, 0), plain(LABEL, 0, 0), plain(TRUE, 0, 0)]);
-    let until = |rng: &mut Rng, a: usize, b: usize, c: u16| {
-        let (operation, kind) = rng.pick(&[(E, 1), (E, 2), (A, 1), (A, 2)]);
-        node(operation, kind, a, b, c.into())
-    };
+    let until = |rng: &mut Rng, a: usize, b: usize, c: u16| node(rng.pick(&[E, A]), rng.pick(kinds), a, b, c.into());
     let mut rule = vec![first, plain(LABEL, 1, 0)];
     rule.push(until(rng, 0, 1, c));
     if rng.percent(15) {
@@ -105,11 +103,22 @@ pub fn lined(rng: &mut Rng) -> (Chart, Vec<Node>) {
     if rng.below(25) == 0 {
         faults::timelock(rng, &mut chart);
     }
-    (chart, until_rule(rng, c))
+    (chart, until_rule(rng, c, &[AT_MOST, AT_LEAST, EXACTLY]))
+}
+
+/// A line whose minutes are just the bound, at times a minute beside it, and a rule of exact bounds for it.
+pub fn exactly_lined(rng: &mut Rng) -> (Chart, Vec<Node>) {
+    let c = bound(rng);
+    let mut chart = exact_lines::random(rng, c.into());
+    if rng.below(25) == 0 {
+        faults::timelock(rng, &mut chart);
+    }
+    let beside = if rng.percent(20) { rng.pick(&[c.saturating_sub(1), (c + 1).min(GREATEST)]) } else { c };
+    (chart, until_rule(rng, beside, &[EXACTLY, EXACTLY, EXACTLY, AT_MOST, AT_LEAST]))
 }
 
 fn line(rng: &mut Rng) -> Case {
-    let (chart, rule) = lined(rng);
+    let (chart, rule) = if rng.percent(25) { exactly_lined(rng) } else { lined(rng) };
     whole(rng, &chart, rule)
 }
 
@@ -123,7 +132,8 @@ fn damaged(rng: &mut Rng) -> Case {
     for node in untils.filter(|_| rng.percent(15)) {
         node[6..].copy_from_slice(&great);
     }
-    let scratch = if rng.percent(80) { Lent::new(lent.length * 64, lent.fill) } else { lent };
+    let exact = rule::nodes(&rule).iter().any(|node| node.kind == EXACTLY);
+    let scratch = if rng.percent(80) && !exact { Lent::new(lent.length * 64, lent.fill) } else { lent };
     Case::Count { chart, rule, marks, scratch }
 }
 

@@ -2,7 +2,7 @@
 //! and the first operand decides which ways there are.
 
 use crate::bytes::chart::{arrow, Chart, Slots};
-use crate::bytes::rule::{node, plain, Node, A, E, LABEL};
+use crate::bytes::rule::{node, plain, Node, A, AT_LEAST, AT_MOST, E, EXACTLY, LABEL};
 use crate::random::rng::Rng;
 use crate::random::timelocks::let_time_pass;
 
@@ -28,9 +28,10 @@ fn chart(rng: &mut Rng) -> Chart {
 }
 
 pub fn random(rng: &mut Rng) -> (Chart, Vec<Node>) {
-    let (operation, kind) = rng.pick(&[(E, 1), (E, 2), (E, 2), (A, 1)]);
+    let (operation, kind) =
+        rng.pick(&[(E, AT_MOST), (E, AT_LEAST), (E, AT_LEAST), (E, EXACTLY), (E, EXACTLY), (A, AT_MOST)]);
     let c = match (operation, kind) {
-        (E, 1) => rng.within(5, 40),
+        (E, AT_MOST) => rng.within(5, 40),
         _ => rng.below(50) / rng.within(1, 8),
     };
     let until = node(operation, kind, 0, 1, c);

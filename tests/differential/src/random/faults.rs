@@ -1,7 +1,7 @@
 //! Faults inside well-framed charts and rules, so that the later rows are met.
 
 use crate::bytes::chart::{arrow, Arrow, Chart};
-use crate::bytes::rule::{plain, Node, A, E, LABEL, NOT, TRUE};
+use crate::bytes::rule::{plain, Node, A, E, EXACTLY, LABEL, NOT, TRUE};
 use crate::random::rng::Rng;
 
 fn any_arrow<'a>(rng: &mut Rng, chart: &'a mut Chart) -> Option<&'a mut Arrow> {
@@ -79,14 +79,29 @@ pub fn chart(rng: &mut Rng, chart: &mut Chart) {
 
 fn wrong_form(rng: &mut Rng, x: &mut Node) {
     let odd = rng.pick(&[1, 16, 256, 65_535]);
-    match rng.below(6) {
+    match rng.below(7) {
         0 => x.operation = rng.pick(&[7, 8, 128, 255]),
         1 => x.operation = rng.below(7) as u8,
-        2 if x.operation >= E => x.kind = rng.pick(&[0, 3, 255]),
+        2 if x.operation >= E => x.kind = rng.pick(&[0, 4, 255]),
         2 => x.kind = rng.pick(&[1, 2, 3, 255]),
         3 => *x = plain(LABEL, rng.pick(&[15, 16, 17, 65_535]), 0),
         4 => x.b = odd,
+        5 if x.operation >= E => (x.kind, x.c) = (EXACTLY, past_exact(rng)),
         _ => x.c = odd,
+    }
+}
+
+/// Past the greatest c of an exact bound: by little, by what eight bits would lose, or as far as can be.
+fn past_exact(rng: &mut Rng) -> u16 {
+    rng.pick(&[256, 256, 256, 257, 511, 512, 65_535])
+}
+
+/// One of the untils, if there is one, has such a bound.
+pub fn exact_bound_past(rng: &mut Rng, nodes: &mut [Node]) {
+    let mut untils: Vec<&mut Node> = nodes.iter_mut().filter(|node| matches!(node.operation, E | A)).collect();
+    let at = rng.below(untils.len());
+    if let Some(until) = untils.get_mut(at) {
+        (until.kind, until.c) = (EXACTLY, past_exact(rng));
     }
 }
 

@@ -1,12 +1,15 @@
 //! Random formulas of so many nodes: every operation and label, and bounds of every length. Left first, as a text
 //! numbers them.
 
-use crate::bytes::rule::{node, plain, Node, A, AND, E, LABEL, NOT, OR, TRUE};
+use crate::bytes::rule::{node, plain, Node, A, AND, AT_LEAST, AT_MOST, E, EXACTLY, LABEL, NOT, OR, TRUE};
 use crate::random::rng::Rng;
 
 /// Where the number of digits changes, and where the greatest begins.
 const BOUNDS: [usize; 18] =
     [0, 1, 9, 10, 99, 100, 999, 1_000, 9_999, 10_000, 59_999, 60_000, 65_499, 65_500, 65_529, 65_530, 65_534, 65_535];
+
+/// The same of exact ones.
+const EXACT_BOUNDS: [usize; 14] = [0, 1, 9, 10, 99, 100, 199, 200, 249, 250, 254, 255, 255, 255];
 
 fn bound(rng: &mut Rng) -> usize {
     match rng.below(4) {
@@ -14,6 +17,13 @@ fn bound(rng: &mut Rng) -> usize {
         1 => rng.below(300),
         _ => rng.pick(&BOUNDS),
     }
+}
+
+fn exact_bound(rng: &mut Rng) -> usize {
+    if rng.percent(50) {
+        return rng.below(256);
+    }
+    rng.pick(&EXACT_BOUNDS)
 }
 
 fn leaf(rng: &mut Rng) -> Node {
@@ -27,7 +37,9 @@ fn joined(rng: &mut Rng, a: usize, b: usize) -> Node {
     if rng.percent(40) {
         return plain(rng.pick(&[AND, OR]), a, b);
     }
-    node(rng.pick(&[E, A]), rng.pick(&[1, 2]), a, b, bound(rng))
+    let (operation, kind) = (rng.pick(&[E, A]), rng.pick(&[AT_MOST, AT_LEAST, EXACTLY]));
+    let c = if kind == EXACTLY { exact_bound(rng) } else { bound(rng) };
+    node(operation, kind, a, b, c)
 }
 
 /// Appends a formula; its node is the last one.

@@ -29,22 +29,31 @@ pub fn lent(rng: &mut Rng, exact: usize) -> Lent {
     Lent::new(length, rng.next())
 }
 
+/// About what check wants, at times about the 4n of rules without exact bounds.
+fn scratch(rng: &mut Rng, rule: &[Node], n: usize) -> Lent {
+    let wanted = if rng.below(40) == 0 { 4 * n } else { rule::check_scratch(rule, n) };
+    lent(rng, wanted)
+}
+
 fn check_with(rng: &mut Rng, chart: &Chart, rule: &[Node]) -> Case {
     let marks = lent(rng, chart.states() * rule.len());
-    let scratch = lent(rng, 4 * chart.states());
+    let scratch = scratch(rng, rule, chart.states());
     Case::Check { chart: chart.bytes(), rule: rule::bytes(rule), marks, scratch }
 }
 
 fn whole_check(rng: &mut Rng) -> Case {
     let timelocks = rng.percent(25);
     let chart = chart::random(rng, timelocks);
-    let rule = trees::random(rng, &chart);
+    let mut rule = trees::random(rng, &chart);
+    if rng.below(50) == 0 {
+        faults::exact_bound_past(rng, &mut rule);
+    }
     check_with(rng, &chart, &rule)
 }
 
 /// A line whose minutes count would go through.
 fn lined_check(rng: &mut Rng) -> Case {
-    let (chart, rule) = counts::lined(rng);
+    let (chart, rule) = if rng.percent(60) { counts::exactly_lined(rng) } else { counts::lined(rng) };
     check_with(rng, &chart, &rule)
 }
 
@@ -53,7 +62,7 @@ fn great_check(rng: &mut Rng) -> Case {
     let chart = chart::great(rng);
     let rule = trees::great(rng, &chart);
     let marks = Lent::new(chart.states() * rule.len(), rng.next());
-    let scratch = Lent::new(4 * chart.states(), rng.next());
+    let scratch = Lent::new(rule::check_scratch(&rule, chart.states()), rng.next());
     Case::Check { chart: chart.bytes(), rule: rule::bytes(&rule), marks, scratch }
 }
 
@@ -62,6 +71,7 @@ pub fn damaged_check(rng: &mut Rng) -> Case {
     let mut chart = chart::random(rng, false);
     let mut rule = trees::random(rng, &chart);
     let (n, k) = (chart.states(), rule.len());
+    let (marks, scratch) = (lent(rng, k * n), scratch(rng, &rule, n));
     let (on_chart, on_rule) = rng.pick(&[(true, false), (false, true), (true, true)]);
     let inner = rng.percent(60);
     for _ in 0..rng.within(1, 2) {
@@ -79,7 +89,7 @@ pub fn damaged_check(rng: &mut Rng) -> Case {
     if on_rule && (!inner || rng.percent(15)) {
         damage::bytes(rng, &mut rule, damage::ONE_COUNT);
     }
-    Case::Check { chart, rule, marks: lent(rng, k * n), scratch: lent(rng, 4 * n) }
+    Case::Check { chart, rule, marks, scratch }
 }
 
 fn kind(rng: &mut Rng) -> Case {
@@ -100,8 +110,8 @@ fn kind(rng: &mut Rng) -> Case {
 fn check_of(rng: &mut Rng, share: usize) -> Case {
     match share {
         0..=1 => great_check(rng),
-        2..=6 => lined_check(rng),
-        7..=41 => whole_check(rng),
+        2..=8 => lined_check(rng),
+        9..=41 => whole_check(rng),
         _ => damaged_check(rng),
     }
 }

@@ -1,7 +1,7 @@
 //! Runs of about 256 steps: a line of states into a ring, whose fewest steps are known.
 
 use crate::bytes::chart::{arrow, Arrow, Chart};
-use crate::bytes::rule::{node, plain, Node, A, E, LABEL, TRUE};
+use crate::bytes::rule::{node, plain, Node, A, AT_LEAST, AT_MOST, E, EXACTLY, LABEL, TRUE};
 use crate::random::rng::Rng;
 
 pub struct Long {
@@ -56,9 +56,9 @@ fn round(rng: &mut Rng) -> Long {
     let mut chart = lasso(rng, n, minutes as u16);
     let less = rng.below(minutes);
     let rule = match rng.below(2) {
-        0 => until(E, 2, plain(TRUE, 0, 0), steps * minutes - less),
+        0 => until(E, AT_LEAST, plain(TRUE, 0, 0), steps * minutes - less),
         // Label 15 is nowhere: the run is over once its moment is above the bound.
-        _ => until(A, 1, plain(LABEL, 15, 0), steps * minutes - less - 1),
+        _ => until(A, AT_MOST, plain(LABEL, 15, 0), steps * minutes - less - 1),
     };
     Long { start: mixed(rng, &mut chart), chart, rule, steps }
 }
@@ -68,14 +68,28 @@ fn line(rng: &mut Rng) -> Long {
     let n = rng.pick(&[40, 100, 255, 256, 256]);
     let mut chart = lasso(rng, n, 1);
     let more = rng.below(2);
-    let rule = until(E, 1, plain(LABEL, 1, 0), n - 1 + more);
+    let rule = until(E, AT_MOST, plain(LABEL, 1, 0), n - 1 + more);
     Long { start: mixed(rng, &mut chart), chart, rule, steps: n - 1 }
 }
 
+/// Round a ring on which one arrow takes a minute and the others none, until just so many minutes have passed.
+fn slow_round(rng: &mut Rng) -> Long {
+    let n = rng.within(2, 6);
+    let mut arrows: Vec<Arrow> = (0..n).map(|start| arrow(start, (start + 1) % n, 0, 0)).collect();
+    let timed = rng.below(n);
+    (arrows[timed].fewest, arrows[timed].most) = (1, 1);
+    // From state 0 the minute of round c ends where the timed arrow of that round does.
+    let steps = |c: usize| (c - 1) * n + timed + 1;
+    let c = 256 / n + rng.below(3);
+    let mut chart = Chart { labels: vec![1; n], arrows };
+    let rule = until(E, EXACTLY, plain(TRUE, 0, 0), c);
+    Long { start: mixed(rng, &mut chart), chart, rule, steps: steps(c) }
+}
+
 pub fn random(rng: &mut Rng) -> Long {
-    if rng.below(20) == 0 {
-        line(rng)
-    } else {
-        round(rng)
+    match rng.below(20) {
+        0 => line(rng),
+        1..=6 => slow_round(rng),
+        _ => round(rng),
     }
 }

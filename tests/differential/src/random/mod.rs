@@ -5,6 +5,7 @@ pub mod counts;
 pub mod damage;
 pub mod dense_runs;
 pub mod edits;
+pub mod exact_lines;
 pub mod faults;
 pub mod formulas;
 pub mod generate;

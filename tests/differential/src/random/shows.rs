@@ -2,10 +2,11 @@
 //! shortest that are enough.
 
 use crate::bytes::chart::{self, Chart};
-use crate::bytes::rule::{self, node, plain, Node, A, E, LABEL};
+use crate::bytes::rule::{self, node, plain, Node, A, AT_LEAST, AT_MOST, E, EXACTLY, LABEL};
 use crate::cases::case::{Case, Lent};
 use crate::random::asked;
 use crate::random::dense_runs;
+use crate::random::exact_lines;
 use crate::random::generate::{damaged_check, lent};
 use crate::random::long_runs;
 use crate::random::rng::Rng;
@@ -16,9 +17,9 @@ use crate::random::trees;
 /// Bytes that are enough for every run.
 const MAX_RUN: usize = 257 * 6;
 
-/// About 257n numbers, at times about the 4n of check.
-fn scratch(rng: &mut Rng, n: usize) -> Lent {
-    let (least, enough) = (4 * n, 257 * n);
+/// About 257n numbers, at times about what check wants.
+fn scratch(rng: &mut Rng, rule: &[Node], n: usize) -> Lent {
+    let (least, enough) = (rule::check_scratch(rule, n), 257 * n);
     let length = match rng.below(40) {
         0 => least.saturating_sub(1),
         1 => least,
@@ -48,7 +49,7 @@ fn output(rng: &mut Rng, steps: usize) -> Lent {
 
 fn whole(rng: &mut Rng, chart: &Chart, rule: &[Node], steps: usize) -> Case {
     let n = chart.states();
-    let (marks, scratch) = (lent(rng, n * rule.len()), scratch(rng, n));
+    let (marks, scratch) = (lent(rng, n * rule.len()), scratch(rng, rule, n));
     let (chart, rule) = (chart.bytes(), rule::bytes(rule));
     let [node, state] = asked::random(rng, &chart, &rule);
     Case::Show { chart, rule, marks, scratch, node, state, output: output(rng, steps) }
@@ -74,8 +75,17 @@ fn dense(rng: &mut Rng) -> Case {
 fn lined(rng: &mut Rng) -> Case {
     let c = rng.below(20);
     let chart = timed_lines::random(rng, c);
-    let (operation, kind) = rng.pick(&[(E, 1), (E, 2), (A, 1), (A, 1)]);
+    let asked = [(E, AT_MOST), (E, AT_LEAST), (E, EXACTLY), (E, EXACTLY), (A, AT_MOST), (A, AT_MOST), (A, EXACTLY)];
+    let (operation, kind) = rng.pick(&asked);
     let rule = [plain(LABEL, 0, 0), plain(LABEL, 1, 0), node(operation, kind, 0, 1, c)];
+    open(rng, &chart, &rule)
+}
+
+/// The same where every run takes the same minutes.
+fn exactly_lined(rng: &mut Rng) -> Case {
+    let c = rng.pick(&[0, 3, 20, 255]);
+    let chart = exact_lines::random(rng, c);
+    let rule = [plain(LABEL, 0, 0), plain(LABEL, 1, 0), node(rng.pick(&[E, E, E, A]), EXACTLY, 0, 1, c)];
     open(rng, &chart, &rule)
 }
 
@@ -126,7 +136,12 @@ fn damaged(rng: &mut Rng) -> Case {
         panic!("a check was asked for");
     };
     let [node, state] = asked::random(rng, &chart, &rule);
-    let scratch = if rng.percent(50) { Lent::new(lent.length / 4 * 257, lent.fill) } else { lent };
+    let exact = rule::nodes(&rule).iter().any(|node| node.kind == EXACTLY);
+    let scratch = match rng.percent(50) {
+        true if exact => Lent::new(lent.length / 256 * 257, lent.fill),
+        true => Lent::new(lent.length / 4 * 257, lent.fill),
+        false => lent,
+    };
     let steps = rng.below(3);
     Case::Show { chart, rule, marks, scratch, node, state, output: output(rng, steps) }
 }
@@ -137,7 +152,8 @@ pub fn random(rng: &mut Rng) -> Case {
         1 | 2 => long(rng),
         3..=5 => damaged(rng),
         6..=10 => dense(rng),
-        11 | 12 => lined(rng),
+        11 => lined(rng),
+        12 | 13 => exactly_lined(rng),
         _ => small(rng),
     }
 }

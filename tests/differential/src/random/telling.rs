@@ -1,7 +1,7 @@
 //! Rules of one until, bent towards marks that have a run to be shown.
 
 use crate::bytes::chart::Chart;
-use crate::bytes::rule::{plain, Node, A, E, LABEL, NOT, TRUE};
+use crate::bytes::rule::{plain, Node, A, AT_MOST, E, LABEL, NOT, TRUE};
 use crate::random::rng::Rng;
 use crate::random::trees;
 
@@ -14,7 +14,7 @@ pub fn random(rng: &mut Rng, chart: &Chart) -> Vec<Node> {
     let until = &mut rule[last];
     mostly_at_most(rng, until);
     match (until.operation, until.kind) {
-        (E, 1) => until.c = until.c.saturating_add(rng.below(10) as u16),
+        (E, AT_MOST) => until.c = until.c.saturating_add(rng.below(10) as u16),
         _ if rng.percent(50) => until.c /= 2,
         _ => {}
     }
@@ -24,7 +24,7 @@ pub fn random(rng: &mut Rng, chart: &Chart) -> Vec<Node> {
 /// For A only "at most" has runs that are shown.
 pub fn mostly_at_most(rng: &mut Rng, until: &mut Node) {
     if until.operation == A && rng.percent(80) {
-        until.kind = 1;
+        until.kind = AT_MOST;
     }
 }
 

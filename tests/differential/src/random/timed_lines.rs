@@ -83,7 +83,7 @@ fn labels(rng: &mut Rng, n: usize) -> Vec<u16> {
 }
 
 /// As they are, from the other end, or in any order.
-fn ordered<T>(rng: &mut Rng, items: &mut [T]) {
+pub fn ordered<T>(rng: &mut Rng, items: &mut [T]) {
     match rng.below(3) {
         0 => {}
         1 => items.reverse(),

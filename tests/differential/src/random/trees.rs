@@ -1,7 +1,7 @@
-//! Random rules: trees of all seven operations, both bounds, any order of the nodes.
+//! Random rules: trees of all seven operations, every bound, any order of the nodes.
 
 use crate::bytes::chart::{Chart, NO_END};
-use crate::bytes::rule::{node, plain, Node, A, AND, E, LABEL, NOT, OR, TRUE};
+use crate::bytes::rule::{node, plain, Node, A, AND, AT_LEAST, AT_MOST, E, EXACTLY, LABEL, MOST_EXACT, NOT, OR, TRUE};
 use crate::random::rng::Rng;
 
 /// Which untils a rule prefers, so that each of the four kinds of rule comes up.
@@ -97,6 +97,14 @@ impl Soil<'_> {
     }
 }
 
+/// An until with a bound of any kind.
+fn until(rng: &mut Rng, soil: &Soil, operation: u8, a: usize, b: usize) -> Node {
+    let (kind, c) = (rng.pick(&[AT_MOST, AT_LEAST, EXACTLY]), soil.bound(rng));
+    let greatest = MOST_EXACT.into();
+    let c = if kind == EXACTLY && c > greatest { rng.pick(&[0, c % 256, greatest - 1, greatest]) } else { c };
+    node(operation, kind, a, b, c)
+}
+
 fn leaf(rng: &mut Rng, soil: &Soil) -> Node {
     if rng.percent(25) {
         return plain(TRUE, 0, 0);
@@ -129,7 +137,8 @@ fn joined(rng: &mut Rng, soil: &Soil, taste: Taste, a: usize, b: usize) -> Node 
         return plain(rng.pick(&[AND, OR, OR]), a, b);
     }
     let taste = if rng.percent(5) { Taste::Any } else { taste };
-    node(taste.until(rng), rng.pick(&[1, 2]), a, b, soil.bound(rng))
+    let operation = taste.until(rng);
+    until(rng, soil, operation, a, b)
 }
 
 /// Numbers the nodes anew in any order in which operands are lower than their node.
@@ -206,7 +215,7 @@ fn one_until(rng: &mut Rng, soil: &Soil) -> Vec<Node> {
     nodes.push(plain(LABEL, soil.label(rng), 0));
     let second = operand(rng, &mut nodes);
     let operation = rng.pick(&[E, A]);
-    nodes.push(node(operation, rng.pick(&[1, 2]), first, second, soil.bound(rng)));
+    nodes.push(until(rng, soil, operation, first, second));
     nodes
 }
 

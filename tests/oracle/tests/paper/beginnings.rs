@@ -24,7 +24,7 @@ fn joined(pieces: &[&Texts], most: usize) -> Texts {
 fn one_line_more(formulas: &Texts, most: usize) -> Texts {
     let word = |word: &str| Texts::from([word.as_bytes().to_vec()]);
     let numbers = |to: u32| (0..=to).map(|number| number.to_string().into_bytes()).collect::<Texts>();
-    let (labels, bounds) = (numbers(15), numbers(65_535));
+    let (labels, bounds, exact_bounds) = (numbers(15), numbers(65_535), numbers(255));
     let mut made = joined(&[&word("true")], most);
     made.extend(joined(&[&word("L"), &labels], most));
     made.extend(joined(&[&word("!"), formulas], most));
@@ -32,9 +32,9 @@ fn one_line_more(formulas: &Texts, most: usize) -> Texts {
         made.extend(joined(&[&word("("), formulas, &word(sign), formulas, &word(")")], most));
     }
     for quantifier in ["E(", "A("] {
-        for sign in [" U<=", " U>="] {
+        for (sign, bounds) in [(" U<=", &bounds), (" U>=", &bounds), (" U==", &exact_bounds)] {
             let (left, right) = ([&word(quantifier), formulas, &word(sign)], [&word(" "), formulas, &word(")")]);
-            made.extend(joined(&[left.as_slice(), &[&bounds], &right].concat(), most));
+            made.extend(joined(&[left.as_slice(), &[bounds], &right].concat(), most));
         }
     }
     made
@@ -131,6 +131,12 @@ fn every_label_number_of_up_to_4_digits() {
 fn every_bound_of_up_to_5_digits() {
     every_number(65_535, 5, "A(true U<=", " L2)");
     every_number(65_535, 3, "!E(!L3 U>=", " (L2 & true))");
+}
+
+#[test]
+fn every_exact_bound_of_up_to_5_digits() {
+    every_number(255, 5, "A(true U==", " L2)");
+    every_number(255, 3, "!E(!L3 U==", " (L2 & true))");
 }
 
 /// Behind each number all ten digits.

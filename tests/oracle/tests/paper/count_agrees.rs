@@ -1,9 +1,11 @@
 //! Count against check: the same marks for every rule that passes.
 
-use crate::make::{chart, l0_l1, label, rule, ArrowFields, NodeFields, Numbers, A, AT_LEAST, AT_MOST, E, NO_END, TRUE};
+use crate::make::{chart, l0_l1, label, rule, ArrowFields, NodeFields, Numbers, NO_END, TRUE};
+use crate::make::{A, AT_LEAST, AT_MOST, E, EXACTLY};
 use oracle::{check, count};
 
 const BOUNDS: [u16; 7] = [0, 1, 2, 3, 5, 13, 255];
+const UNTILS: [(u8, u8); 6] = [(E, AT_MOST), (E, AT_LEAST), (E, EXACTLY), (A, AT_MOST), (A, AT_LEAST), (A, EXACTLY)];
 
 fn one_of<T: Copy>(numbers: &mut Numbers, of: &[T]) -> T {
     of[numbers.below(of.len() as u64) as usize]
@@ -38,7 +40,7 @@ fn some_tree(numbers: &mut Numbers, depth: u32, nodes: &mut Vec<NodeFields>) -> 
         _ => {
             let (a, b) = (some_tree(numbers, depth - 1, nodes), some_tree(numbers, depth - 1, nodes));
             let until = operation >= E;
-            let kind = if until { one_of(numbers, &[AT_MOST, AT_LEAST]) } else { 0 };
+            let kind = if until { one_of(numbers, &[AT_MOST, AT_LEAST, EXACTLY]) } else { 0 };
             (operation, kind, a, b, if until { one_of(numbers, &BOUNDS) } else { 0 })
         }
     };
@@ -56,7 +58,7 @@ fn some_rule(numbers: &mut Numbers) -> Vec<u8> {
 fn agree(chart: &[u8], rule: &[u8]) -> bool {
     let (n, k) = (usize::from(chart[5]) << 8 | usize::from(chart[6]), usize::from(rule[6]));
     let (mut checked, mut counted) = (vec![7; n * k + 1], vec![7; n * k + 1]);
-    let outcome = check(chart, rule, &mut checked, &mut vec![9; 4 * n]);
+    let outcome = check(chart, rule, &mut checked, &mut vec![9; 256 * n]);
     assert_eq!(count(chart, rule, &mut counted, &mut vec![9; 256 * n]), outcome, "{chart:?} {rule:?}");
     assert_eq!(counted, checked, "{chart:?} {rule:?}");
     outcome.number == 0
@@ -65,7 +67,7 @@ fn agree(chart: &[u8], rule: &[u8]) -> bool {
 #[test]
 fn each_until() {
     let mut numbers = Numbers(21);
-    for (operation, kind) in [(E, AT_MOST), (E, AT_LEAST), (A, AT_MOST), (A, AT_LEAST)] {
+    for (operation, kind) in UNTILS {
         for c in BOUNDS {
             let accepted = (0..300).filter(|_| agree(&some_chart(&mut numbers), &l0_l1(operation, kind, c))).count();
             assert!(accepted > 150, "{accepted}");
@@ -84,7 +86,7 @@ fn untils_in_untils() {
 #[test]
 fn the_largest_charts() {
     let mut numbers = Numbers(23);
-    for (operation, kind) in [(E, AT_MOST), (E, AT_LEAST), (A, AT_MOST), (A, AT_LEAST)] {
+    for (operation, kind) in UNTILS {
         for q_at in [0, 255] {
             let beside =
                 |i: u16| [i % 256, numbers.below(256) as u16, 1 + i % 300, if i % 9 == 0 { NO_END } else { 999 }];

@@ -7,8 +7,18 @@ use crate::make::Numbers;
 use crate::text_call::read;
 use crate::told::Told;
 
-const LINES: [&str; 8] =
-    ["true", "!f", "(f & f)", "(f | f)", "E(f U<=c f)", "E(f U>=c f)", "A(f U<=c f)", "A(f U>=c f)"];
+const LINES: [&str; 10] = [
+    "true",
+    "!f",
+    "(f & f)",
+    "(f | f)",
+    "E(f U<=c f)",
+    "E(f U>=c f)",
+    "E(f U==c f)",
+    "A(f U<=c f)",
+    "A(f U>=c f)",
+    "A(f U==c f)",
+];
 
 /// All digits in a row make one number, or stay where they are none: a label becomes f, a bound c.
 fn numbers_crossed_out(text: &str) -> String {
@@ -22,6 +32,7 @@ fn numbers_crossed_out(text: &str) -> String {
         match number {
             Some(0..=15) if crossed.ends_with('L') => crossed.replace_range(crossed.len() - 1.., "f"),
             Some(0..=65_535) if crossed.ends_with("U<=") || crossed.ends_with("U>=") => crossed.push('c'),
+            Some(0..=255) if crossed.ends_with("U==") => crossed.push('c'),
             _ => crossed.push_str(digits),
         }
         rest = &rest[at + length..];
@@ -66,9 +77,9 @@ fn agrees(text: &str) -> bool {
     answer.is_ok()
 }
 
-const PIECES: [&str; 26] = [
-    "t", "r", "u", "e", "L", "E", "A", "U", "!", "(", ")", "&", "|", "<", ">", "=", " ", "0", "1", "5", "6", "9",
-    "true", " U<=", "L1", "E(",
+const PIECES: [&str; 28] = [
+    "t", "r", "u", "e", "L", "E", "A", "U", "!", "(", ")", "&", "|", "<", ">", "=", " ", "0", "1", "5", "6", "9", "25",
+    "true", " U<=", " U==", "L1", "E(",
 ];
 
 fn some_piece(numbers: &mut Numbers) -> &'static str {

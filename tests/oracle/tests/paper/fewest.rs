@@ -1,6 +1,6 @@
 //! All finite runs of a few steps over tiny charts, one by one, against the search and the judge.
 
-use crate::make::{chart, l0_l1, run, ArrowFields, Numbers, A, AT_LEAST, AT_MOST, E, NO_END};
+use crate::make::{chart, l0_l1, run, ArrowFields, Numbers, A, AT_LEAST, AT_MOST, E, EXACTLY, NO_END};
 use crate::show_call::with_room;
 use oracle::{check, fewest_steps, judge_run};
 
@@ -21,7 +21,8 @@ impl Tiny {
         let starts = (0..n).chain((0..numbers.below(4)).map(|extra| extra % n)).collect::<Vec<_>>();
         let arrows = starts.into_iter().map(|start| Tiny::arrow(numbers, n, start)).collect();
         let labels = (0..n).map(|_| [0, 1, 1, 1, 2, 3][numbers.below(6) as usize]).collect();
-        let (operation, kind) = [(E, AT_MOST), (E, AT_LEAST), (A, AT_MOST)][numbers.below(3) as usize];
+        let asked = [(E, AT_MOST), (E, AT_LEAST), (E, EXACTLY), (A, AT_MOST)];
+        let (operation, kind) = asked[numbers.below(4) as usize];
         Tiny { labels, arrows, operation, kind, c: numbers.below(6) as u16 }
     }
 
@@ -58,7 +59,11 @@ impl Tiny {
     /// Position i meets the until.
     fn met(&self, run: &[(u16, u32)], i: usize) -> bool {
         let (moment, c) = (run[..i].iter().map(|at| at.1).sum::<u32>(), u32::from(self.c));
-        let bound_met = if self.kind == AT_MOST { moment <= c } else { moment >= c };
+        let bound_met = match self.kind {
+            AT_MOST => moment <= c,
+            AT_LEAST => moment >= c,
+            _ => moment == c,
+        };
         bound_met && self.q(&run[i]) && run[..i].iter().all(|at| self.p(at))
     }
 
@@ -107,7 +112,7 @@ fn such_marks(tiny: &Tiny) -> Option<Vec<bool>> {
     let (chart, rule) = tiny.bytes();
     let n = tiny.labels.len();
     let mut marks = vec![7; 3 * n];
-    match check(&chart, &rule, &mut marks, &mut [0; 16]).number {
+    match check(&chart, &rule, &mut marks, &mut [0; 4 * 256]).number {
         0 => Some(marks[2 * n..].iter().map(|&mark| (mark == 1) == (tiny.operation == E)).collect()),
         number => {
             assert_eq!(number, 19);
@@ -120,7 +125,7 @@ fn such_marks(tiny: &Tiny) -> Option<Vec<bool>> {
 fn search_agrees_with_all_runs() {
     let mut numbers = Numbers(3);
     let mut with_steps = [0; STEPS + 1];
-    for _ in 0..6000 {
+    for _ in 0..8000 {
         let tiny = Tiny::some(&mut numbers);
         let (chart, rule) = tiny.bytes();
         for (state, such) in such_marks(&tiny).into_iter().flatten().enumerate() {

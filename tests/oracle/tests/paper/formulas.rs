@@ -1,6 +1,6 @@
 //! Formulas as trees, with their texts and nodes by plain words: another way than that of the two calls.
 
-use crate::make::{label, not, rule, NodeFields, Numbers, A, AT_LEAST, AT_MOST, E, TRUE};
+use crate::make::{label, not, rule, NodeFields, Numbers, A, AT_LEAST, AT_MOST, E, EXACTLY, TRUE};
 use std::rc::Rc;
 
 #[derive(Clone)]
@@ -17,6 +17,7 @@ pub enum Formula {
 use Formula::{And, Label, Not, Or, True, Until};
 
 const BOUNDS: [u16; 12] = [0, 1, 9, 10, 14, 99, 100, 999, 1_000, 9_999, 10_000, 65_535];
+const EXACT_BOUNDS: [u16; 12] = [0, 1, 9, 10, 14, 99, 100, 199, 200, 249, 250, 255];
 
 impl Formula {
     pub fn text(&self) -> String {
@@ -28,7 +29,11 @@ impl Formula {
             Or(f, g) => format!("({} | {})", f.text(), g.text()),
             Until(operation, kind, c, f, g) => {
                 let quantifier = if *operation == E { 'E' } else { 'A' };
-                let sign = if *kind == AT_MOST { "<=" } else { ">=" };
+                let sign = match *kind {
+                    AT_MOST => "<=",
+                    AT_LEAST => ">=",
+                    _ => "==",
+                };
                 format!("{quantifier}({} U{sign}{c} {})", f.text(), g.text())
             }
         }
@@ -96,8 +101,9 @@ pub fn some_formula(numbers: &mut Numbers, count: usize) -> Formula {
         1 => Or(f, g),
         either => {
             let operation = if either % 2 == 0 { E } else { A };
-            let kind = if numbers.below(2) == 0 { AT_MOST } else { AT_LEAST };
-            Until(operation, kind, BOUNDS[numbers.below(12) as usize], f, g)
+            let kind = [AT_MOST, AT_LEAST, EXACTLY][numbers.below(3) as usize];
+            let bounds = if kind == EXACTLY { EXACT_BOUNDS } else { BOUNDS };
+            Until(operation, kind, bounds[numbers.below(12) as usize], f, g)
         }
     }
 }

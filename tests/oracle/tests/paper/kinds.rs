@@ -30,6 +30,18 @@ fn untils() {
     assert_eq!(kind(&[TRUE, TRUE, A01, TRUE, (5, 1, 3, 2, 0)]), Kind::Neither);
 }
 
+/// Of both untils with every bound.
+#[test]
+fn the_bound_plays_no_part() {
+    for bound in 1..=3 {
+        let until = |operation, a, b| (operation, bound, a, b, 9);
+        assert_eq!(kind(&[TRUE, TRUE, until(6, 0, 1)]), Kind::AllRuns);
+        assert_eq!(kind(&[TRUE, TRUE, until(5, 0, 1)]), Kind::SomeRun);
+        assert_eq!(kind(&[TRUE, TRUE, until(5, 0, 1), TRUE, until(6, 2, 3)]), Kind::Neither);
+        assert_eq!(kind(&[TRUE, TRUE, until(5, 0, 1), not(2), TRUE, until(6, 3, 4)]), Kind::AllRuns);
+    }
+}
+
 #[test]
 fn not_exchanges_the_kinds() {
     assert_eq!(kind(&[TRUE, TRUE, A01, not(2)]), Kind::SomeRun);

@@ -21,6 +21,7 @@ pub const E: u8 = 5;
 pub const A: u8 = 6;
 pub const AT_MOST: u8 = 1;
 pub const AT_LEAST: u8 = 2;
+pub const EXACTLY: u8 = 3;
 
 /// Label 0 until label 1, node 2.
 pub fn l0_l1(operation: u8, kind: u8, c: u16) -> Vec<u8> {
@@ -83,6 +84,14 @@ pub fn undo() -> Vec<u8> {
 
 pub fn one() -> Vec<u8> {
     chart(&[0], &[[0, 0, 1, 1]])
+}
+
+/// The scratch numbers that check wants for a rule.
+pub fn check_scratch(n: usize, nodes: &[NodeFields]) -> usize {
+    match nodes.iter().any(|node| node.1 == EXACTLY) {
+        true => 256 * n,
+        false => 4 * n,
+    }
 }
 
 /// Numbers that look random and are the same on every run.

@@ -70,11 +70,22 @@ fn rows_10_to_13() {
 #[test]
 fn row_14() {
     let unknown = (7, 0, 0, 0, 0);
-    let wrong_kinds = [(0, 1, 0, 0, 0), (1, 2, 0, 0, 0), (4, 1, 0, 0, 0), (5, 0, 0, 0, 0), (6, 3, 0, 0, 0)];
+    let wrong_kinds = [(0, 1, 0, 0, 0), (1, 2, 0, 0, 0), (4, 3, 0, 0, 0), (5, 0, 0, 0, 0), (6, 4, 0, 0, 0)];
+    let exactly = [(5, 3, 0, 0, 256), (6, 3, 0, 0, 257), (6, 3, 0, 0, 65_535)];
     let unused = [(0, 0, 1, 0, 0), (1, 0, 0, 1, 0), (2, 0, 0, 1, 0), (2, 0, 0, 0, 1), (3, 0, 0, 0, 1)];
-    for node in [[unknown, label(16)].as_slice(), &wrong_kinds, &unused].concat() {
+    for node in [[unknown, label(16)].as_slice(), &wrong_kinds, &exactly, &unused].concat() {
         assert_eq!(of_rule(&rule(&[node])), (14, 0, 3), "{node:?}");
         assert_eq!(of_rule(&rule(&[TRUE, node, node])), (14, 1, 3), "{node:?}");
+    }
+}
+
+/// Of kind 3 only c up to 255 passes row 14; of the others every c does.
+#[test]
+fn row_14_passed() {
+    for (kind, c) in [(1, 65_535), (2, 65_535), (3, 0), (3, 255)] {
+        for operation in [5, 6] {
+            assert_eq!(of_rule(&rule(&[(operation, kind, 0, 0, c)])), (15, 0, 3), "{operation} {kind} {c}");
+        }
     }
 }
 

@@ -1,7 +1,7 @@
 //! Write rule: the text, the rule's own refusals, and the room.
 
 use crate::formulas::some_formula;
-use crate::make::{label, not, rule, true_l2, NodeFields, Numbers, A, AT_LEAST, AT_MOST, E, TRUE};
+use crate::make::{label, not, rule, true_l2, NodeFields, Numbers, A, AT_LEAST, AT_MOST, E, EXACTLY, TRUE};
 use crate::text_call::{write, write_into};
 use crate::told::told;
 use oracle::kind_of_rule;
@@ -23,6 +23,8 @@ fn each_operation() {
     assert_eq!(text(&[TRUE, label(2), (A, AT_LEAST, 0, 1, 0)]), "A(true U>=0 L2)");
     assert_eq!(text(&[TRUE, label(2), (E, AT_MOST, 0, 1, 65_535)]), "E(true U<=65535 L2)");
     assert_eq!(text(&[TRUE, label(2), (E, AT_LEAST, 0, 1, 100)]), "E(true U>=100 L2)");
+    assert_eq!(text(&[TRUE, label(2), (E, EXACTLY, 0, 1, 0)]), "E(true U==0 L2)");
+    assert_eq!(text(&[TRUE, label(2), (A, EXACTLY, 0, 1, 255)]), "A(true U==255 L2)");
 }
 
 /// The tree has one text, whatever the order of its nodes.
@@ -47,7 +49,8 @@ fn the_rule_s_own_refusals() {
         (rule(&[TRUE; 65]), (13, 0, 3)),
         (altered(6, 2), (13, 0, 3)),
         (rule(&[label(16)]), (14, 0, 3)),
-        (altered(24, 3), (14, 2, 3)),
+        (altered(24, 4), (14, 2, 3)),
+        (true_l2(A, EXACTLY, 256), (14, 2, 3)),
         (rule(&[not(0)]), (15, 0, 3)),
         (rule(&[TRUE, (3, 0, 0, 0, 0)]), (16, 0, 3)),
         (rule(&[TRUE, TRUE]), (16, 0, 3)),

@@ -2,7 +2,7 @@
 //! Such a run goes round in the product of state, moment and what became of the until, again and again, each time later.
 //! Check, count and row 19 are compared with that.
 
-use crate::make::{chart, l0_l1, ArrowFields, Numbers, A, AT_LEAST, AT_MOST, E, NO_END};
+use crate::make::{chart, l0_l1, ArrowFields, Numbers, A, AT_LEAST, AT_MOST, E, EXACTLY, NO_END};
 use oracle::{check, count, has_leavable_loop_of_0_to_0, has_loop_of_fewest_0, Outcome};
 use std::collections::HashSet;
 
@@ -36,7 +36,7 @@ impl Small {
         };
         let arrows = starts.into_iter().map(&mut arrow).collect();
         let labels = (0..n).map(|_| [0, 1, 1, 1, 2, 3][numbers.below(6) as usize]).collect();
-        let kind = [AT_MOST, AT_LEAST][numbers.below(2) as usize];
+        let kind = [AT_MOST, AT_LEAST, EXACTLY][numbers.below(3) as usize];
         Small { labels, arrows, kind, c: numbers.below(c_below) as u16 }
     }
 
@@ -46,7 +46,11 @@ impl Small {
 
     fn becomes(&self, before: Became, state: u16, moment: u16) -> Became {
         let labels = self.labels[usize::from(state)];
-        let bound_met = if self.kind == AT_MOST { moment <= self.c } else { moment >= self.c };
+        let bound_met = match self.kind {
+            AT_MOST => moment <= self.c,
+            AT_LEAST => moment >= self.c,
+            _ => moment == self.c,
+        };
         match before {
             Became::Open if labels & 2 != 0 && bound_met => Became::Met,
             Became::Open if labels & 1 == 0 => Became::Lost,
@@ -96,7 +100,7 @@ impl Small {
     fn called(&self, operation: u8) -> (Outcome, Vec<u8>) {
         let (chart, rule, n) = (self.chart(), l0_l1(operation, self.kind, self.c), self.labels.len());
         let (mut checked, mut counted) = (vec![7; 3 * n], vec![7; 3 * n]);
-        let outcome = check(&chart, &rule, &mut checked, &mut vec![9; 4 * n]);
+        let outcome = check(&chart, &rule, &mut checked, &mut vec![9; 256 * n]);
         assert_eq!(count(&chart, &rule, &mut counted, &mut vec![9; 256 * n]), outcome);
         assert_eq!(counted, checked, "{self:?}");
         (outcome, checked.split_off(2 * n))
@@ -124,20 +128,20 @@ fn small_slots() {
     let slots = [[0, 0], [0, 0], [0, 0], [0, 1], [0, 2], [1, 1], [0, NO_END]];
     let mut numbers = Numbers(31);
     let (mut refused, mut fewest_0, mut leavable) = (0, 0, 0);
-    for _ in 0..5000 {
+    for _ in 0..8000 {
         let small = Small::some(&mut numbers, &slots, 4);
         let accepted = small.compare();
         refused += u32::from(!accepted);
         fewest_0 += u32::from(accepted && has_loop_of_fewest_0(&small.chart()));
         leavable += u32::from(accepted && has_leavable_loop_of_0_to_0(&small.chart()));
     }
-    assert!(refused > 500 && fewest_0 > 2000 && leavable > 500, "{refused} {fewest_0} {leavable}");
+    assert!(refused > 800 && fewest_0 > 3000 && leavable > 800, "{refused} {fewest_0} {leavable}");
 }
 
 #[test]
 fn longer_slots() {
     let slots = [[0, 0], [0, 3], [1, 5], [2, 2], [3, 7], [1, NO_END], [3, NO_END]];
     let mut numbers = Numbers(5);
-    let accepted = (0..2000).filter(|_| Small::some(&mut numbers, &slots, 12).compare()).count();
-    assert!(accepted > 1500, "{accepted}");
+    let accepted = (0..3000).filter(|_| Small::some(&mut numbers, &slots, 12).compare()).count();
+    assert!(accepted > 2200, "{accepted}");
 }

@@ -38,6 +38,35 @@ fn numbers() {
     taken("A(true U<=9999 L2)");
 }
 
+/// "c above 255 there is refused with 64": `U==25` could go on, with no digit above 5.
+#[test]
+fn exact_bounds() {
+    taken("A(true U==0 L2)");
+    at("A(true U==00 L2)", 11);
+    at("A(true U==007 L2)", 11);
+    at("A(true U== L2)", 10);
+    taken("A(true U==25 L2)");
+    for c in 250..=255 {
+        taken(&format!("A(true U=={c} L2)"));
+    }
+    for c in ["256", "259", "260", "300", "999"] {
+        at(format!("A(true U=={c} L2)"), 12);
+    }
+    at("A(true U==1000 L2)", 13);
+    at("A(true U==2550 L2)", 13);
+    at("A(true U==256", 12);
+    at("A(true U==25", 12);
+    taken("A(true U<=256 L2)");
+    at("A(true U=14 L2)", 9);
+    at("A(true U=== L2)", 10);
+    at("A(true U=<14 L2)", 9);
+    at("A(true U=", 9);
+    at("A(true U==14L2)", 12);
+    at("A(true U ==14 L2)", 8);
+    at("A(true U= =14 L2)", 9);
+    at("A(true U== 14 L2)", 10);
+}
+
 #[test]
 fn spaces() {
     taken("(L0 & L1)");
@@ -81,9 +110,7 @@ fn wrong_words() {
     at("(true)", 5);
     at("EL0", 1);
     at("E(L0 U<3 L1)", 7);
-    at("E(L0 U=<3 L1)", 6);
-    at("A(true U=14 L2)", 8);
-    at("A(true U==14 L2)", 8);
+    at("E(L0 U=<3 L1)", 7);
     at("A(true U<==14 L2)", 10);
 }
 

@@ -1,6 +1,6 @@
 //! Typed texts that are taken, and the bytes they become.
 
-use crate::make::{l0_l1, label, not, rule, true_l2, NodeFields, A, AT_LEAST, AT_MOST, E, TRUE};
+use crate::make::{l0_l1, label, not, rule, true_l2, NodeFields, A, AT_LEAST, AT_MOST, E, EXACTLY, TRUE};
 use crate::text_call::{read, read_into};
 
 fn becomes(text: &str, nodes: &[NodeFields]) {
@@ -25,7 +25,7 @@ fn each_line_of_the_grammar() {
     becomes("(L0 & L1)", &[label(0), label(1), (3, 0, 0, 1, 0)]);
     becomes("(L0 | L1)", &[label(0), label(1), (4, 0, 0, 1, 0)]);
     for (operation, quantifier) in [(E, "E"), (A, "A")] {
-        for (kind, sign) in [(AT_MOST, "<="), (AT_LEAST, ">=")] {
+        for (kind, sign) in [(AT_MOST, "<="), (AT_LEAST, ">="), (EXACTLY, "==")] {
             let text = format!("{quantifier}(L0 U{sign}7 L1)");
             assert_eq!(read(&text), Ok(l0_l1(operation, kind, 7)), "{text}");
         }
@@ -44,6 +44,9 @@ fn all_labels() {
 fn all_bounds() {
     for c in 0..=65_535 {
         assert_eq!(read(format!("E(L0 U>={c} L1)")), Ok(l0_l1(E, AT_LEAST, c)), "{c}");
+    }
+    for c in 0..=255 {
+        assert_eq!(read(format!("A(L0 U=={c} L1)")), Ok(l0_l1(A, EXACTLY, c)), "{c}");
     }
 }
 

@@ -1,0 +1,3 @@
+pub mod Minutes
+pub mod Next
+pub mod Walk
