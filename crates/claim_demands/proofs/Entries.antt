@@ -72,7 +72,7 @@ own-map d o p = refl
 
 -- ── Map check ──
 
--- a chart's own numbers are those that carry 1
+-- every number of the chart's own table carries 1 (and so does 23, which is none of them)
 chart-numbered :
     (s : List ℕ) → let n = acceptedRefusal s .number in (eqb n 0 || eqb (entryOf n) chartOrDetail) ≡ true
 unfolding acceptedTable chartTable loopRow entryOf
