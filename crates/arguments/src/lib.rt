@@ -1,9 +1,10 @@
 // The numbers among a program's arguments.
+#![tactic(auto)]
 ghost use Rattle.std.specs.Prelude.{◌≡◌, ◌+◌, ◌-◌, ◌*◌, ◌≤◌, min};
 ghost use Rattle.arguments.specs.Argument.{out_of_range, argument_of};
 
 // An argument of a program: a number in decimal, or another text.
-#[derive(Drop)]
+#[derive(Clone, Copy)]
 pub enum Argument {
     Number(usize),
     Other,

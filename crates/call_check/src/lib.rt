@@ -1,4 +1,5 @@
 // The call check.
+#![tactic(auto)]
 ghost use Rattle.call_check.specs.Check.{Checked};
 
 use outcome::Outcome;

@@ -1,4 +1,5 @@
 // The call kind of rule.
+#![tactic(auto)]
 ghost use Rattle.std.specs.Prelude.{◌≡◌, ◌<◌};
 ghost use Rattle.tctl.specs.Kind.{all_runs, some_run, is_of};
 ghost use Rattle.rule.specs.Bytes.{node_count};
@@ -8,7 +9,7 @@ ghost use Rattle.call_kind.specs.Kind.{kind_for, Answered};
 
 use outcome::Outcome;
 
-#[derive(Drop)]
+#[derive(Clone, Copy)]
 pub enum Kind {
     AllRuns,
     SomeRun,
@@ -16,7 +17,7 @@ pub enum Kind {
     Neither,
 }
 
-#[derive(Drop)]
+#[derive(Clone, Copy)]
 pub struct KindAnswer {
     pub outcome: Outcome,
     pub kind: Kind,

@@ -1,4 +1,5 @@
 // Map check: whether a detail chart is one under an overview chart, by a map.
+#![tactic(auto)]
 ghost use Rattle.std.specs.Prelude.{◌≡◌, [], ◌∷◌, ◌+◌, ◌*◌, ◌≤◌, length};
 ghost use Rattle.outcome.specs.Refusal.{first};
 ghost use Rattle.chart.specs.Bytes.{arrow_count, arrow_of};
@@ -13,7 +14,7 @@ use chart::ArrowWords;
 use outcome::Outcome;
 
 // How many states and arrows a chart has.
-#[derive(Drop)]
+#[derive(Clone, Copy)]
 pub struct Sizes {
     pub states: usize,
     pub arrows: usize,

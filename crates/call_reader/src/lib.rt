@@ -1,5 +1,6 @@
 // The chart reader: it holds the lent bytes of a chart and the number of the next arrow. What it hands out is found by
 // `step`, which takes a plain slice and a number; the functions above it are thin, and proved by hand.
+#![tactic(auto)]
 ghost use Rattle.std.specs.Prelude.{◌≡◌};
 ghost use Rattle.call_reader.specs.Reading.{handed, step_of, moved};
 
@@ -12,14 +13,14 @@ pub struct ChartReader<'a> {
 }
 
 // What a reader hands out.
-#[derive(Drop)]
+#[derive(Clone, Copy)]
 pub enum Handed {
     Arrow(ArrowWords),
     Finished,
 }
 
 // What a reader hands out, and the number of the next arrow after that.
-#[derive(Drop)]
+#[derive(Clone, Copy)]
 pub struct Stepped {
     pub handed: Handed,
     pub number: usize,

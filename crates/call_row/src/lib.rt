@@ -1,9 +1,10 @@
 // The call row: the part of the overview's or the detail's marks table that holds a row, itself and not a copy.
+#![tactic(auto)]
 ghost use Rattle.std.specs.Prelude.{◌≡◌, length};
 ghost use Rattle.call_row.specs.Row.{chosen, Part, place_of};
 
 // Which of the two tables.
-#[derive(Drop)]
+#[derive(Clone, Copy)]
 pub enum Choice {
     Overview,
     Detail,
@@ -11,7 +12,7 @@ pub enum Choice {
 
 // Where a part of a table begins, and how many bytes it has. Laid out as in C, for the call that is exported.
 #[repr(C)]
-#[derive(Drop)]
+#[derive(Clone, Copy)]
 pub struct Place {
     pub start: usize,
     pub size: usize,

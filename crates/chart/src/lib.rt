@@ -1,10 +1,12 @@
 // A chart's bytes: reading n, m, a label word and an arrow. The refusals stand in `chart_refusals`.
+#![tactic(auto)]
+
 ghost use Rattle.std.specs.Prelude.{◌≡◌, ◌+◌, ◌*◌, ◌≤◌, ◌<◌, length};
 ghost use Rattle.chart.specs.Bytes.{state_count, arrow_count, label_word, is_no_end, arrow_words};
 ghost use Rattle.chart.specs.Shape.{Small, Inside};
 
 // The four words of an arrow.
-#[derive(Drop)]
+#[derive(Clone, Copy)]
 pub struct ArrowWords {
     pub start: usize,
     pub end: usize,

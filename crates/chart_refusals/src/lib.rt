@@ -1,4 +1,5 @@
 // Refusals 1 to 9 of a chart.
+#![tactic(auto)]
 ghost use Rattle.std.specs.Prelude.{◌≡◌, List, [], ◌∷◌, ℕ, suc, ◌≤◌, ◌<◌, length};
 ghost use Rattle.outcome.specs.Refusal.{first, rows};
 ghost use Rattle.chart.specs.Bytes.{arrow_words};
@@ -64,7 +65,7 @@ fn slot_refusal(before: Outcome, a: ArrowWords, i: usize) -> Outcome
 }
 
 // What a pass over the arrows finds: the first of rows 7 and 8 that is met, and if none is, which states an arrow leaves.
-#[derive(Drop)]
+#[derive(Clone, Copy)]
 struct Seen {
     refusal: Outcome,
     left: [u64; 4],

@@ -1,1 +1,3 @@
 // The thirteen items of 01, "Two charts to try": specs/ and proofs/ alone, no code.
+
+#![tactic(auto)]

@@ -1,4 +1,5 @@
 // What has no form in C, as numbers: the kind of a rule, and what the chart reader hands out.
+#![tactic(auto)]
 ghost use Rattle.std.specs.Prelude.{◌≡◌};
 ghost use Rattle.call_reader.specs.declared.Handed.TheVariants.{Arrow, Finished};
 ghost use Rattle.coded.specs.Coded.{code, coded_arrow};
@@ -9,7 +10,7 @@ use outcome::Outcome;
 
 // What kind of rule answers, with the kind as its code.
 #[repr(C)]
-#[derive(Drop)]
+#[derive(Clone, Copy)]
 pub struct CodedAnswer {
     pub outcome: Outcome,
     pub kind: u32,
@@ -29,7 +30,7 @@ pub fn code_of(kind: Kind) -> u32
 
 // What the chart reader hands out: found is 1 with an arrow's words, and 0 with zeros where it is finished.
 #[repr(C)]
-#[derive(Drop)]
+#[derive(Clone, Copy)]
 pub struct CodedArrow {
     pub found: u32,
     pub start: usize,

@@ -1,4 +1,5 @@
 // The desk program: two files in, one text out.
+#![tactic(auto)]
 ghost use Rattle.std.specs.Prelude.{◌+◌, ◌*◌, ◌≤◌, length, take};
 ghost use Rattle.io.specs.Counts.{IsPrefixLen};
 ghost use Rattle.desk_call.specs.Files.{Files};
@@ -33,7 +34,7 @@ pub fn read(name: &[u8], space: &mut [u8]) -> usize
 }
 
 // What a call answered, and how many bytes are printed of it.
-#[derive(Drop)]
+#[derive(Clone, Copy)]
 pub struct Reported {
     pub outcome: Outcome,
     pub printed: usize,

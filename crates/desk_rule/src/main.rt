@@ -1,4 +1,5 @@
 // Writes desk.rul from a text, thin over a proved answer; its test types a rule that stops early.
+#![tactic(auto)]
 fn main() {
     typed_call::run();
 }

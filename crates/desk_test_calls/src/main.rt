@@ -1,5 +1,6 @@
 // The calls that only Rattle code can make, run and printed: a row as a part of a table, and a chart reader that is
 // lent to `next`. What is printed is compared with what the separately written program prints.
+#![tactic(auto)]
 ghost use Rattle.std.specs.Prelude.{◌≡◌};
 ghost use Rattle.desk_test_calls.specs.Turned.{turned};
 
@@ -7,7 +8,7 @@ use call_reader::Handed;
 use call_row::Choice;
 
 // What a reader hands out, and what it hands out after that.
-#[derive(Drop)]
+#[derive(Clone, Copy)]
 pub struct Turned {
     pub first: Handed,
     pub following: Handed,

@@ -1,4 +1,5 @@
 // Prints desk.rul as text, thin over a proved writer; its test has the rule of desk's.
+#![tactic(auto)]
 fn main() {
     text_call::run();
 }

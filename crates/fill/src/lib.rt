@@ -1,4 +1,5 @@
 // Rows of marks, filled state by state: from the rows of two operands, from labels, or from numbers.
+#![tactic(auto)]
 ghost use Rattle.std.specs.Prelude.{◌≡◌, true, ℕ, ◌+◌, ◌*◌, ◌≤◌, ◌<◌, ◌/◌, ◌%◌, ◌^◌, length, get_or, eqb};
 ghost use Rattle.model.specs.Engine.{num};
 ghost use Rattle.model.specs.Marks.{mark};
@@ -8,7 +9,7 @@ ghost use Rattle.fill.specs.Fill.{combine, passes_limit};
 ghost use Rattle.fill.specs.Written.{RowWritten};
 
 // A mark from the marks p and q of two operands.
-#[derive(Drop)]
+#[derive(Clone, Copy)]
 pub enum Connective {
     Yes,
     No,

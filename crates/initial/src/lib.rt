@@ -1,4 +1,5 @@
 // What numbers start from, state by state, by the marks of two operands. A number keeps its hint.
+#![tactic(auto)]
 ghost use Rattle.std.specs.Prelude.{◌≡◌, ◌+◌, ◌*◌, ◌≤◌, length};
 ghost use Rattle.model.specs.Marks.{mark};
 ghost use Rattle.chart.specs.Shape.{Passed};
@@ -9,7 +10,7 @@ ghost use Rattle.initial.specs.Filled.{Filled, Sured};
 // What numbers start from, by p and q; minutes that fall are what they leave to the top.
 // Reach: 0 minutes at q, else the cap, through p. Goal: 1 at q, else 0, through p. Fail: 1 at p or q, else the cap,
 // through p where q does not hold. Stay: the cap of minutes at p, else 0, through every state.
-#[derive(Drop)]
+#[derive(Clone, Copy)]
 pub enum Initial {
     Reach(u32),
     Goal(u32),
@@ -50,7 +51,7 @@ fn initial_of(initial: Initial, p: bool, q: bool) -> u32
 }
 
 // What an initial gives where neither mark holds, only the first, only the second, or both.
-#[derive(Drop)]
+#[derive(Clone, Copy)]
 struct Four {
     neither: u32,
     first: u32,

@@ -13,7 +13,7 @@ use Rattle.tctl.specs.Chart.{Chart}
 use Rattle.model.specs.Engine.{num}
 use Rattle.model.specs.Marks.{bit, flag}
 use Rattle.model.proofs.Marks.{row_below}
-use Rattle.minutes.specs.Makes.{Task, Makes, stops_at}
+use Rattle.minutes.specs.Makes.{Task, stops, stops_at}
 use Rattle.minutes.specs.Table.{latest, makes}
 use Rattle.minutes.proofs.Beyond.{makes_beyond}
 use Rattle.minutes.proofs.Latest.{latest_le, latest_local}
@@ -33,8 +33,13 @@ module _
     (beyond : List ℕ)
     (is-beyond : (s : ℕ) → w.beyond s ≡ flag beyond s)
     {minute : ℕ}
-    {old : List ℕ}
-    (filled : RowsFilled G n w minute old) where
+    {old new : List ℕ}
+    (filled : RowsFilled G n w minute old)
+    (stop : ℕ → Bool)
+    (is_stop : (s : ℕ) → stops_at w (suc minute) s ≡ stop s)
+    (begun :
+    Entries (minute * n) n (λ s. cond (stop s) (suc (suc minute)) (last_below n beyond old s (suc minute)))
+    old new) where
   abbrev made : ℕ → ℕ → Bool
   made s r = makes G.arrows n w r s
 
@@ -42,64 +47,54 @@ module _
   made_beyond : (s : ℕ) → flag beyond s ≡ made s 0
   made_beyond s = sym (makes_beyond G.arrows n w s ∙ is-beyond s)
 
-  pub last_made : (k s : ℕ) → k ≤ suc minute → s < n → last_below n beyond old s k ≡ latest (made s) k
+  last_made : (k s : ℕ) → k ≤ suc minute → s < n → last_below n beyond old s k ≡ latest (made s) k
   unfolding latest
   last_made zero s l h = refl
   last_made (suc zero) s l h = ap bit (made_beyond s)
   last_made (suc (suc m)) s l h = filled.last m s (omega arith) h
 
-  pub old_right : (r s : ℕ) → r ≤ minute → s < n → answer n beyond old r s ≡ made s r
+  old_right : (r s : ℕ) → r ≤ minute → s < n → answer n beyond old r s ≡ made s r
   unfolding latest
   old_right zero s l h = made_beyond s
   old_right (suc m) s l h =
       ap (λ v. eqb v (suc (suc m))) (filled.last m s l h) ∙
       chosen (made s (suc m)) (omega (arith, latest_le (made s) (suc m)))
 
-  -- the row begins with states of which `stop` says yes: all that make it at once, and some that make it
-  module _
-      {new : List ℕ}
-      (stop : ℕ → Bool)
-      (begun :
-      Entries (minute * n) n (λ s. cond (stop s) (suc (suc minute)) (last_below n beyond old s (suc minute)))
-      old new) where
-    same : (j : ℕ) → j < minute * n → num new j ≡ num old j
-    same j l = begun.elsewhere j (inl l)
+  same : (j : ℕ) → j < minute * n → num new j ≡ num old j
+  same j l = begun.elsewhere j (inl l)
 
-    right : (r s : ℕ) → r ≤ minute → s < n → answer n beyond new r s ≡ made s r
-    right r s l h = answer_local n minute beyond old new same r s l h ∙ old_right r s l h
+  right : (r s : ℕ) → r ≤ minute → s < n → answer n beyond new r s ≡ made s r
+  right r s l h = answer_local n minute beyond old new same r s l h ∙ old_right r s l h
 
-    pub number : (s : ℕ) → s < n → num new (minute * n + s) ≡ cond (stop s) (suc (suc minute)) (latest (made s) (suc minute))
-    number s h =
-        begun.here s h ∙ ap (cond (stop s) (suc (suc minute))) (last_made (suc minute) s (omega arith) h)
+  number : (s : ℕ) → s < n → num new (minute * n + s) ≡ cond (stop s) (suc (suc minute)) (latest (made s) (suc minute))
+  number s h =
+      begun.here s h ∙ ap (cond (stop s) (suc (suc minute))) (last_made (suc minute) s (omega arith) h)
 
-    pub row : (s : ℕ) → s < n → answer n beyond new (suc minute) s ≡ stop s
-    row s h =
-        ap (λ v. eqb v (suc (suc minute))) (number s h) ∙
-        chosen (stop s) (omega (arith, latest_le (made s) (suc minute)))
+  row : (s : ℕ) → s < n → answer n beyond new (suc minute) s ≡ stop s
+  row s h =
+      ap (λ v. eqb v (suc (suc minute))) (number s h) ∙
+      chosen (stop s) (omega (arith, latest_le (made s) (suc minute)))
 
-    -- the last of the rows below is the same by the answers
-    below : (m s : ℕ) → m ≤ minute → s < n → latest (made s) (suc m) ≡ latest (λ r. answer n beyond new r s) (suc m)
-    below m s l h = latest_local (made s) (λ r. answer n beyond new r s) (suc m) (λ r k. sym (right r s (omega arith) h))
+  -- the last of the rows below is the same by the answers
+  below : (m s : ℕ) → m ≤ minute → s < n → latest (made s) (suc m) ≡ latest (λ r. answer n beyond new r s) (suc m)
+  below m s l h = latest_local (made s) (λ r. answer n beyond new r s) (suc m) (λ r k. sym (right r s (omega arith) h))
 
-    last_here :
-        (s : ℕ) → s < n → num new (minute * n + s) ≡ latest (λ r. answer n beyond new r s) (suc (suc minute))
-    unfolding latest
-    last_here s h =
-        number s h ∙ ap₂ (λ b v. cond b (suc (suc minute)) v) (sym (row s h)) (below minute s (omega arith) h)
+  last_here :
+      (s : ℕ) → s < n → num new (minute * n + s) ≡ latest (λ r. answer n beyond new r s) (suc (suc minute))
+  unfolding latest
+  last_here s h =
+      number s h ∙ ap₂ (λ b v. cond b (suc (suc minute)) v) (sym (row s h)) (below minute s (omega arith) h)
 
-    pub filling_begun :
-        ((s : ℕ) → s < n → stop s ≡ true → Makes G w (suc minute) s) →
-        ((s : ℕ) → s < n → stops_at w (suc minute) s ≡ true → stop s ≡ true) →
-        Filling G n w minute beyond new
-    filling_begun sound begins =
-        record {
-          last = λ m s l h.
-              by_cases (dec_le (suc m) minute)
-              (λ k. same (m * n + s) (omega (arith, row_below n k)) ∙ filled.last m s k h ∙ below (suc m) s k h)
-              (λ k.
-              let e : minute ≡ m = omega arith in
-              subst (λ m. num new (m * n + s) ≡ latest (λ r. answer n beyond new r s) (suc (suc m))) e (last_here s h));
-          right = right;
-          sound = λ s h e. sound s h (sym (row s h) ∙ e);
-          begins = λ s h e. row s h ∙ begins s h e;
-        }
+  pub filling_begun : Filling G n w minute beyond new
+  filling_begun =
+      record {
+        last = λ m s l h.
+            by_cases (dec_le (suc m) minute)
+            (λ k. same (m * n + s) (omega (arith, row_below n k)) ∙ filled.last m s k h ∙ below (suc m) s k h)
+            (λ k.
+            let e : minute ≡ m = omega arith in
+            subst (λ m. num new (m * n + s) ≡ latest (λ r. answer n beyond new r s) (suc (suc m))) e (last_here s h));
+        right = right;
+        sound = λ s h e. stops (is_stop s ∙ sym (row s h) ∙ e);
+        begins = λ s h e. row s h ∙ sym (is_stop s) ∙ e;
+      }

@@ -3,12 +3,12 @@ use mathlib.Core.Path.{◌≡◌, sym, subst, ◌∙◌}
 use mathlib.Core.Logic.{inl, inr}
 use mathlib.Core.List.{List, Memᴰ}
 use mathlib.Core.Bool.{true}
-use Prim.Native.Nat.{ℕ, suc, ◌≤◌, min}
+use Prim.Native.Nat.{ℕ, suc, ◌≤◌, ◌<◌, min}
 use native.Mathlib.Omega.{arith}
+use Rattle.base.proofs.Tabulate.{mem_tabulate}
 use Rattle.tctl.specs.Chart.{Arrow, Most, up_to, no_end, Within}
 use Rattle.model.specs.Engine.{num}
-use Rattle.chart.specs.Bytes.{arrow_words, arrow_of, chart_of}
-use Rattle.chart.proofs.Chart.{arrow_mem}
+use Rattle.chart.specs.Bytes.{arrow_count, arrow_words, arrow_of, chart_of}
 use Rattle.chart.proofs.Reading.{drawn, has_states}
 use Rattle.minutes.specs.Makes.{goes_at}
 use Rattle.moves.specs.declared.Ends.{Ends}
@@ -18,10 +18,15 @@ use Rattle.minute_rows.specs.Numbers.{task_in}
 use Rattle.minute_rows.specs.Filled.{Word, Words, MinuteReady, FromChart}
 use Rattle.minute_rows.proofs.Tasks.{goes_in}
 
--- 256 caps both ends of a slot, so they stay in order
-pub slot_capped : (f : ℕ) (n : Most) → Within f n → min 256 f ≤ capped_most n
+slot_capped : (f : ℕ) (n : Most) → Within f n → min 256 f ≤ capped_most n
 slot_capped f (up_to g) h = omega arith
 slot_capped f no_end h = omega arith
+
+arrow_in :
+    (chart : List ℕ) (j : ℕ) → j < arrow_count chart →
+    Memᴰ (arrow_of (arrow_words chart j)) (chart_of chart).arrows
+unfolding chart_of
+arrow_in chart j l = mem_tabulate (arrow_count chart) (λ j. arrow_of (arrow_words chart j)) j l
 
 module _
     {asked : Asked}
@@ -35,7 +40,7 @@ module _
   held_word i h =
       let c = ready.collected.some i h in
       let a = arrow_of (arrow_words chart c.0) in
-      let k = arrow_mem chart c.0 c.1 in
+      let k = arrow_in chart c.0 c.1 in
       let dr = drawn ready.passed in
       let count = has_states ready.passed in
       let rows = ready.rows in
@@ -73,7 +78,7 @@ module _
   held_chart i h =
       let c = ready.collected.some i h in
       let a = arrow_of (arrow_words chart c.0) in
-      (a, arrow_mem chart c.0 c.1, goes_in asked p q beyond minute a.start ∙ c.2, c.3)
+      (a, arrow_in chart c.0 c.1, goes_in asked p q beyond minute a.start ∙ c.2, c.3)
 
   pub front_chart : FromChart (chart_of chart) (task_in asked p q beyond) minute 0 ends.front words
   front_chart i l h = held_chart i (inl h)

@@ -1,5 +1,4 @@
 pub mod Reading
-pub mod RowBelow
 pub mod Local
 pub mod Capped
 pub mod Answers
@@ -14,3 +13,4 @@ pub mod Beginning
 pub mod Closing
 pub mod Collecting
 pub mod Row
+pub mod Steady

@@ -18,7 +18,7 @@ use Rattle.minute_rows.specs.Numbers.{last_below}
 pub place : (n s : ℕ) {m minute : ℕ} → m ≤ minute → s < n → m * n + s < minute * n + n
 place n s l h = omega (arith, mul-le-mul_right n l)
 
-pub byte_bit : (b : Bool) → bool_byte b ≡ bit b
+byte_bit : (b : Bool) → bool_byte b ≡ bit b
 byte_bit true = refl
 byte_bit false = refl
 

@@ -14,7 +14,6 @@ use Rattle.model.specs.Marks.{flag}
 use Rattle.chart.specs.Bytes.{arrow_count, arrow_words, arrow_of, chart_of}
 use Rattle.chart.proofs.Reading.{drawn, has_states}
 use Rattle.minutes.specs.Makes.{stops_at}
-use Rattle.minutes.specs.Makes.{stops as at_once}
 use Rattle.moves.specs.declared.Ends.{Ends}
 use Rattle.moves.specs.Moves.{capped, move_of, open_in}
 use Rattle.minute_rows.specs.declared.Asked.{Asked}
@@ -84,9 +83,7 @@ module _
       let stops : (s : ℕ) → stops_at w (suc minute) s ≡ stop s =
       λ s.
       stops_in asked p q beyond minute s ∙ ap (λ b. stops_by asked.all b (flag p s) (flag q s)) (sym is-met) in
-      let began =
-      filling_begun w beyond (λ s. refl) ready.filled stop begun (λ s h e. at_once (stops s ∙ e))
-      (λ s h e. sym (stops s) ∙ e) in
+      let began = filling_begun w beyond (λ s. refl) ready.filled stop stops begun in
       let later = swept.kept.right G w dr count (back_chart ready) began in
       let last = closed.kept.right G w dr count (front_chart ready) later in
       filled_row dr count beyond ready.rows.few last (all_tried begun.size swept closed)

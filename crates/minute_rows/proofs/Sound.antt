@@ -20,7 +20,7 @@ use Rattle.minute_rows.proofs.Answers.{leads_answers}
 use Rattle.minute_rows.proofs.Added.{answer_stays, answer_kept, latest_added}
 
 -- the table over n states decides who makes it
-pub made_iff :
+made_iff :
     {G : Chart} → Drawn G → {n : ℕ} → states G ≡ n → (w : Task) (r s : ℕ) → s < n →
     (makes G.arrows n w r s ≡ true) ↔ Makes G w r s
 made_iff {G} dr count w =

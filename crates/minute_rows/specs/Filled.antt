@@ -57,7 +57,19 @@ pub record Ready (count : ℕ) (chart : List ℕ) (n m : ℕ) (p q beyond number
   pub second : length q ≡ n
   pub wide : length beyond ≡ n
   pub room : count * n ≤ length numbers
+  pub some : 1 ≤ count
   pub few : count ≤ 256
+
+-- the first rows are filled, and from there on the bound is met with each number of minutes left, or with none
+pub record Steady
+    (asked : Asked)
+    (from count : ℕ)
+    (chart : List ℕ)
+    (n : ℕ)
+    (p q beyond numbers : List ℕ) : Type 0 where
+  pub order : from ≤ count
+  pub same : (minute : ℕ) → from ≤ minute → minute < count → met_in asked from ≡ met_in asked minute
+  pub filled : RowsFilled (chart_of chart) n (task_in asked p q beyond) from numbers
 
 -- the rows with fewer minutes left are filled, and the arrows are collected
 pub record MinuteReady

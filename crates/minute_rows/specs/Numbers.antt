@@ -1,6 +1,6 @@
 -- The table by minutes as numbers: number m × n + s is the last row, up to that with m minutes left, in which s makes
 -- it, counted from 1, and 0 if there is none. Row 1 is the row beyond, which is lent as marks.
-use Rattle.std.specs.Prelude.{Bool, cond, ◌&&◌, ◌||◌, not as neg, List, ℕ, zero, suc, ◌+◌, ◌*◌, eqb}
+use Rattle.std.specs.Prelude.{Bool, true, false, cond, ◌&&◌, ◌||◌, not as neg, List, ℕ, zero, suc, ◌+◌, ◌*◌, eqb}
 use Rattle.tctl.specs.Formula.{Bound, at_most, at_least, exactly}
 use Rattle.model.specs.Engine.{num}
 use Rattle.model.specs.Marks.{bit, flag}
@@ -27,6 +27,12 @@ abbrev pub bare : Met → Bound
 bare Always = at_most 0
 bare AtEnd = exactly 0
 bare Never = at_least 0
+
+-- it is met with none left alone
+abbrev pub end_only : Met → Bool
+end_only Always = false
+end_only AtEnd = true
+end_only Never = false
 
 -- it is met with so many minutes left
 abbrev pub met_in : Asked → ℕ → Bool

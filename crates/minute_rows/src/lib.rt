@@ -1,20 +1,21 @@
 // The table by minutes on lent numbers: a row for each number of minutes left, and in it a number for each state, the
 // last row up to this one in which the state makes it, counted from 1, which is the row beyond. So an arrow's slot
 // takes one comparison, however wide it is.
+#![tactic(auto)]
 ghost use Rattle.std.specs.Prelude.{◌≡◌, cond, suc, ◌*◌};
 ghost use Rattle.base.specs.Entries.{Entries};
 ghost use Rattle.chart.specs.Bytes.{chart_of};
 ghost use Rattle.minutes.specs.Untils.{met_with};
 ghost use Rattle.moves.specs.Moves.{arrow_by, move_of};
-ghost use Rattle.minute_rows.specs.Numbers.{last_below, bare, task_in, stops_by};
-ghost use Rattle.minute_rows.specs.Filled.{RowsFilled, InRow, Rows, Word, Words, MinuteReady};
+ghost use Rattle.minute_rows.specs.Numbers.{last_below, bare, end_only, task_in, stops_by};
+ghost use Rattle.minute_rows.specs.Filled.{RowsFilled, InRow, Rows, Word, Words, Ready, Steady, MinuteReady};
 ghost use Rattle.minute_rows.specs.Filled.{row_begun, leads_on, Followed, Swept, Closed};
 
 use moves::{Ends, Move};
 
 // When a bound is met, by the minutes that are left of it: always, as at most is; with none left, as exactly is; or
 // only after, as at least is.
-#[derive(Drop)]
+#[derive(Clone, Copy)]
 pub enum Met {
     Always,
     AtEnd,
@@ -22,14 +23,14 @@ pub enum Met {
 }
 
 // What is asked: to fail an A-until or to meet an E-until; and when its bound is met.
-#[derive(Drop)]
+#[derive(Clone, Copy)]
 pub struct Asked {
     pub all: bool,
     pub met: Met,
 }
 
 // Whether the bound is met with so many minutes left.
-pub fn met_in(met: Met, minute: usize) -> bool
+fn met_in(met: Met, minute: usize) -> bool
     ensures { result ≡ met_with (bare met) minute }
 {
     match met {
@@ -39,8 +40,19 @@ pub fn met_in(met: Met, minute: usize) -> bool
     }
 }
 
+// Whether the bound is met with no minute left alone.
+fn is_at_end(met: Met) -> bool
+    ensures { result ≡ end_only met }
+{
+    match met {
+        Met::Always => false,
+        Met::AtEnd => true,
+        Met::Never => false,
+    }
+}
+
 // Whether a state with the marks p and q makes it at once, where the bound is met or not.
-pub fn stops(all: bool, met: bool, p: bool, q: bool) -> bool
+fn stops(all: bool, met: bool, p: bool, q: bool) -> bool
     ensures { result ≡ stops_by all met p q }
 {
     let there = met & q;
@@ -51,7 +63,7 @@ pub fn stops(all: bool, met: bool, p: bool, q: bool) -> bool
 }
 
 // The last row below in which s makes it, counted from 1; 0 if there is none.
-pub fn below(n: usize, minute: usize, s: usize, beyond: &[u8], numbers: &[u32]) -> u32
+fn below(n: usize, minute: usize, s: usize, beyond: &[u8], numbers: &[u32]) -> u32
     requires { InRow n minute s beyond.now numbers.now }
     ensures { result ≡ last_below n beyond.now numbers.now s (suc minute) }
 {
@@ -63,7 +75,7 @@ pub fn below(n: usize, minute: usize, s: usize, beyond: &[u8], numbers: &[u32]) 
 }
 
 // The number that a state begins a row with.
-pub fn begun(stops: bool, made: u32, below: u32) -> u32
+fn begun(stops: bool, made: u32, below: u32) -> u32
     ensures { result ≡ cond stops made below }
 {
     if stops {
@@ -99,7 +111,7 @@ fn begin(
 }
 
 // Some duration of the slot leads on.
-pub fn leads(w: Move, n: usize, minute: usize, beyond: &[u8], numbers: &[u32]) -> bool
+fn leads(w: Move, n: usize, minute: usize, beyond: &[u8], numbers: &[u32]) -> bool
     requires { Word n minute (arrow_by w) beyond.now numbers.now }
     ensures { result ≡ leads_on n minute beyond.now numbers.now (arrow_by w) }
 {
@@ -161,14 +173,7 @@ fn sweep(
 }
 
 // The arrows that can take no minute are followed until nothing is new.
-pub fn rounds(
-    front: usize,
-    words: &[u64],
-    n: usize,
-    minute: usize,
-    beyond: &[u8],
-    numbers: &mut [u32],
-)
+fn rounds(front: usize, words: &[u64], n: usize, minute: usize, beyond: &[u8], numbers: &mut [u32])
     requires { Words n minute 0 front words.now beyond.now numbers.old }
     ensures { Closed n minute front words.now beyond.now
         numbers.old numbers.new }
@@ -198,4 +203,58 @@ pub fn fill_row(
     begin(asked.all, met, n, minute, p, q, beyond, numbers);
     sweep(ends.back, moves::WORDS, words, n, minute, beyond, numbers);
     rounds(ends.front, words, n, minute, beyond, numbers);
+}
+
+// The rows from one on up to so many, with each of which the bound is met, or with none. Their arrows are collected once.
+fn fill_rows_from(
+    asked: Asked,
+    from: usize,
+    count: usize,
+    chart: &[u8],
+    n: usize,
+    m: usize,
+    p: &[u8],
+    q: &[u8],
+    beyond: &[u8],
+    numbers: &mut [u32],
+)
+    requires ready { Ready count chart.now n m p.now q.now beyond.now numbers.old }
+    requires steady { Steady asked from count chart.now n p.now q.now beyond.now numbers.old }
+    ensures { RowsFilled (chart_of chart.now) n
+        (task_in asked p.now q.now beyond.now) count numbers.new }
+{
+    let mut words = [0; moves::WORDS];
+    let kind = asked.met;
+    let met = met_in(kind, from);
+    let ends = moves::collect(met, chart, n, m, p, q, &mut words);
+    let mut minute = from;
+    while minute < count {
+        fill_row(asked, chart, n, minute, ends, &words, p, q, beyond, numbers);
+        minute += 1;
+    }
+}
+
+// So many rows, the first of which has no minute left. An exact bound is met in that one alone.
+pub fn fill_rows(
+    asked: Asked,
+    count: usize,
+    chart: &[u8],
+    n: usize,
+    m: usize,
+    p: &[u8],
+    q: &[u8],
+    beyond: &[u8],
+    numbers: &mut [u32],
+)
+    requires { Ready count chart.now n m p.now q.now beyond.now numbers.old }
+    ensures { RowsFilled (chart_of chart.now) n
+        (task_in asked p.now q.now beyond.now) count numbers.new }
+{
+    let kind = asked.met;
+    if is_at_end(kind) {
+        fill_rows_from(asked, 0, 1, chart, n, m, p, q, beyond, numbers);
+        fill_rows_from(asked, 1, count, chart, n, m, p, q, beyond, numbers);
+        return;
+    }
+    fill_rows_from(asked, 0, count, chart, n, m, p, q, beyond, numbers);
 }

@@ -43,7 +43,7 @@ module _ {G : Chart} (dr : Drawn G) where
   minuted p = weaken (λ x g. tt) (λ x e. e) (untick_path dr p).0
 
   -- By induction on the path: its first step takes a tick, or what follows does.
-  timed_on : {go : ℕ → Type 0} {u v : ℕ} (p : Path (ticks G) go (To v) u) → 1 ≤ minutes p → TimedOn G v u
+  timed_on : {go : ℕ → Type 0} {v u : ℕ} (p : Path (ticks G) go (To v) u) → 1 ≤ minutes p → TimedOn G v u
   timed_on (stop e) h = absurd (let z : ⊥ = omega arith in z)
   timed_on {v = v} (step {s} {d} {t} g x p) h = by_cases (dec_le 1 d) now (λ k. later (timed_on p (omega arith)))
     where

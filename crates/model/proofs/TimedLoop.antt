@@ -46,7 +46,7 @@ module _ (labels : List ℕ) where
       }
 
   -- with one more arrow in the list
-  more : {a : Arrow} {l : List Arrow} {s t : ℕ} → Way l s t → Way (a ∷ l) s t
+  more : {a : Arrow} {l : List Arrow} {t s : ℕ} → Way l s t → Way (a ∷ l) s t
   more (stop e) = stop e
   more (step g x p) = step g (again x (Memᴰ.tail x.drawn)) (more p)
 
@@ -59,7 +59,7 @@ module _ (labels : List ℕ) where
 
   -- What follows the first step does without a, or goes through a. If the step is by a itself, the way goes through a
   -- and on with what follows, from its last a on. If it is by an arrow of the list, it goes in front of what is found.
-  split : {a : Arrow} {l : List Arrow} {s t : ℕ} → Way (a ∷ l) s t → Way l s t ⊎ Through a l s t
+  split : {a : Arrow} {l : List Arrow} {t s : ℕ} → Way (a ∷ l) s t → Way l s t ⊎ Through a l s t
   split (stop e) = inl (stop e)
   split {a} {l} {t = t} (step {s} {t = u} g x p) = turn (Memᴰ.cases_cons x.drawn) (split p)
     where

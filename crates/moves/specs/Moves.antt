@@ -1,5 +1,5 @@
 -- Arrows as words, and which of them are collected.
-use Rattle.std.specs.Prelude.{◌≡◌, ◌⊎◌, Bool, true, ◌&&◌, not as neg, List, ℕ, suc, ◌≤◌, ◌<◌, ◌/◌, ◌%◌, min, max, length, get_or, set}
+use Rattle.std.specs.Prelude.{◌≡◌, ◌⊎◌, Bool, true, ◌&&◌, not as neg, List, ℕ, suc, ◌≤◌, ◌<◌, ◌/◌, ◌%◌, min, length, get_or, set}
 use Rattle.tctl.specs.Chart.{Arrow, Most, up_to, no_end}
 use Rattle.model.specs.Marks.{flag}
 use Rattle.chart.specs.Bytes.{arrow_count, arrow_words, arrow_of}
@@ -16,10 +16,6 @@ capped_most no_end = 256
 abbrev pub capped : Arrow → Arrow
 capped a =
     record { start = a.start; end = a.end; fewest = min 256 a.fewest; most = up_to (capped_most a.most) }
-
--- the arrow without the duration of no minute
-abbrev pub later_of : Arrow → Arrow
-later_of a = record { start = a.start; end = a.end; fewest = max 1 a.fewest; most = a.most }
 
 -- what a word says: from below start and end of 8 bits, fewest and most of 9
 abbrev pub move_of : ℕ → Arrow

@@ -1,11 +1,13 @@
-// Arrows as words, for what goes through them again and again: those from states where an until is open. Those that can
-// take no minute stand from the first word up, the others from the last down.
-ghost use Rattle.std.specs.Prelude.{◌≡◌, ◌≤◌, ◌<◌, min, max, length};
+// The arrows that are followed minute by minute, a word each, so that a chart is read once for all minutes: those from
+// states where an until is open. Those that can take no minute stand from the first word up, the others from the last
+// down.
+#![tactic(auto)]
+ghost use Rattle.std.specs.Prelude.{◌≡◌, ◌≤◌, ◌<◌, min, length};
 ghost use Rattle.chart.specs.Bytes.{arrow_of};
 ghost use Rattle.chart.specs.Shape.{Passed};
 ghost use Rattle.arrows.specs.Read.{Low};
 ghost use Rattle.arrow_links.specs.Linked.{Linked};
-ghost use Rattle.moves.specs.Moves.{capped, later_of, move_of, arrow_by, is_open, open_in, WithArrow, Collectable, Collected};
+ghost use Rattle.moves.specs.Moves.{capped, move_of, arrow_by, is_open, open_in, WithArrow, Collectable, Collected};
 ghost use Rattle.moves.specs.Turns.{Ready, WithState};
 
 use chart::ArrowWords;
@@ -20,7 +22,7 @@ pub const WORDS: usize = 2048;
 const LONG: u32 = 256;
 
 // An arrow, its minutes up to `LONG`.
-#[derive(Drop)]
+#[derive(Clone, Copy)]
 pub struct Move {
     pub start: usize,
     pub end: usize,
@@ -29,7 +31,7 @@ pub struct Move {
 }
 
 // Words up to `front` and from `back` on hold arrows.
-#[derive(Drop)]
+#[derive(Clone, Copy)]
 pub struct Ends {
     pub front: usize,
     pub back: usize,
@@ -70,30 +72,6 @@ pub fn unpacked(word: u64) -> Move
         end: (word / 256 % 256) as usize,
         fewest: (word / 65536 % 512) as usize,
         most: (word / 33554432 % 512) as usize,
-    }
-}
-
-// So many minutes, or one if they are none.
-pub fn some_minutes(minutes: u32) -> u32
-    ensures { result ≡ max 1 minutes }
-{
-    if minutes == 0 {
-        return 1;
-    }
-    minutes
-}
-
-// The arrow without the duration of no minute.
-pub fn later(a: ArrowWords) -> Move
-    ensures { arrow_by result ≡ capped (later_of (arrow_of a)) }
-{
-    let fewest = capped_minutes(some_minutes(a.fewest)) as usize;
-    let most = capped_minutes(a.most) as usize;
-    Move {
-        start: a.start,
-        end: a.end,
-        fewest,
-        most,
     }
 }
 
@@ -144,37 +122,6 @@ fn with_state(
 
 // The arrows from states where the until is open, by the rows p and q of its operands; state by state, since the
 // sweeps over the words are faster where arrows from one state stand together.
-pub fn collect_linked(
-    met: bool,
-    chart: &[u8],
-    n: usize,
-    m: usize,
-    p: &[u8],
-    q: &[u8],
-    firsts: &[u32],
-    nexts: &[u32],
-    words: &mut [u64],
-) -> Ends
-    requires { Collectable chart.now n m p.now q.now words.old ×
-        Linked chart.now n m 0 firsts.now nexts.now }
-    ensures { Collected chart.now (open_in met p.now q.now) result
-        words.new }
-{
-    let mut ends = Ends {
-        front: 0,
-        back: WORDS,
-    };
-    let mut s = 0;
-    while s < n {
-        if is_open(met, p[s] == 1, q[s] == 1) {
-            ends = with_state(chart, n, m, firsts, nexts, s, ends, words);
-        }
-        s += 1;
-    }
-    ends
-}
-
-// The same, where they are not linked yet.
 pub fn collect(
     met: bool,
     chart: &[u8],
@@ -191,5 +138,16 @@ pub fn collect(
     let mut firsts = [0; STATES];
     let mut nexts = [0; WORDS];
     arrow_links::link(chart, n, m, &mut firsts, &mut nexts);
-    collect_linked(met, chart, n, m, p, q, &firsts, &nexts, words)
+    let mut ends = Ends {
+        front: 0,
+        back: WORDS,
+    };
+    let mut s = 0;
+    while s < n {
+        if is_open(met, p[s] == 1, q[s] == 1) {
+            ends = with_state(chart, n, m, &firsts, &nexts, s, ends, words);
+        }
+        s += 1;
+    }
+    ends
 }

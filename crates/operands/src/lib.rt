@@ -1,1 +1,3 @@
 // A row of marks that is written from the rows of a node's operands. No code.
+
+#![tactic(auto)]

@@ -1,11 +1,12 @@
 // The outcome of a call: a refusal's number and place and which paper was wrong, or success.
+#![tactic(auto)]
 ghost use Rattle.std.specs.Prelude.{◌≡◌, ◌≤◌};
 ghost use Rattle.outcome.specs.Entry.{entry_of, overview};
 ghost use Rattle.outcome.specs.Refusal.{success, outcome, refusal};
 
 // Laid out as in C, for the calls that are exported.
 #[repr(C)]
-#[derive(Drop)]
+#[derive(Clone, Copy)]
 pub struct Outcome {
     pub number: u32,
     pub place: u32,
@@ -14,7 +15,7 @@ pub struct Outcome {
 
 // What a call with one output answers: its outcome, and how many bytes it wrote, 0 on a refusal.
 #[repr(C)]
-#[derive(Drop)]
+#[derive(Clone, Copy)]
 pub struct Written {
     pub outcome: Outcome,
     pub written: usize,

@@ -1,4 +1,5 @@
 // What a refusal says in words: the papers' own sentence, which paper was wrong, and what the place counts.
+#![tactic(auto)]
 ghost use Rattle.std.specs.Prelude.{◌≡◌, ◌<◌};
 ghost use Rattle.append.specs.Piece.{Room, Appended};
 ghost use Rattle.lines.specs.Line.{line};

@@ -1,1 +1,3 @@
 // Rules whose nodes stand operands before their node, left first: specs/ and proofs/ alone, no code.
+
+#![tactic(auto)]

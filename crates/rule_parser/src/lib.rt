@@ -1,5 +1,6 @@
 // Reads a rule's text, token by token. The formulas that are open are kept in a lent buffer, innermost last, and the nodes
 // in another.
+#![tactic(auto)]
 ghost use Rattle.std.specs.Prelude.{◌≡◌, cond, ◌≤◌, ◌<◌, length, eqb};
 ghost use Rattle.rule_grammar.specs.Machine.{judge};
 ghost use Rattle.rule_parser.specs.Standing.{spot, Within, Starting, Behind, Standing, Turned};
@@ -15,7 +16,7 @@ const STOPPED: u8 = 2;
 const FINISHED: u8 = 3;
 
 // Where reading stands: the phase, the place, how many bytes the open formulas take, and how many nodes are written.
-#[derive(Drop)]
+#[derive(Clone, Copy)]
 pub struct Spot {
     pub phase: u8,
     pub end: usize,
@@ -24,7 +25,7 @@ pub struct Spot {
 }
 
 // How many nodes a text's formula has; 0 and the place of the fault where it is no text of the grammar.
-#[derive(Drop)]
+#[derive(Clone, Copy)]
 pub struct Read {
     pub place: usize,
     pub count: usize,

@@ -1,4 +1,5 @@
 // Refusals 10 to 16 of a rule, and 63.
+#![tactic(auto)]
 ghost use Rattle.std.specs.Prelude.{◌≡◌, [], ◌∷◌, ◌≤◌, length};
 ghost use Rattle.outcome.specs.Refusal.{first, rows};
 ghost use Rattle.rule.specs.Shape.{Shape};

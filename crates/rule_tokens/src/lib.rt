@@ -1,4 +1,5 @@
 // The tokens of a rule's text, each read at its place.
+#![tactic(auto)]
 ghost use Rattle.std.specs.Prelude.{◌≡◌, ◌≤◌, length};
 ghost use Rattle.tctl.specs.Kind.{Runs};
 ghost use Rattle.rule_grammar.specs.Machine.{Join, Opening, Sign, pair, timed, most_of};
@@ -20,7 +21,7 @@ pub const JOINED: u8 = 8;
 const MOST: u32 = 65535;
 
 // What stands at a place, its number, and where it ends. Where there is none, it ends at the byte that none goes on from.
-#[derive(Drop)]
+#[derive(Clone, Copy)]
 pub struct Token {
     pub tag: u8,
     pub number: u32,

@@ -1,4 +1,5 @@
 // Refusal 16 of a rule: how often each node is an operand, in one pass over the nodes.
+#![tactic(auto)]
 ghost use Rattle.std.specs.Prelude.{◌≡◌, true, [], ◌∷◌, ℕ, ◌+◌, ◌<◌, eqb};
 ghost use Rattle.outcome.specs.Refusal.{first};
 ghost use Rattle.rule.specs.Shape.{Ordered, SmallOperands};
@@ -10,7 +11,7 @@ use outcome::Outcome;
 use rule::NodeWords;
 
 // The nodes that are an operand, and those that are one again.
-#[derive(Drop)]
+#[derive(Clone, Copy)]
 pub struct Used {
     pub once: u64,
     pub again: u64,

@@ -1,4 +1,5 @@
 // The text of a shown run, written into a lent buffer line by line.
+#![tactic(auto)]
 ghost use Rattle.std.specs.Prelude.{◌≡◌, ◌+◌, ◌*◌, ◌^◌, ◌≤◌, ◌<◌, length};
 ghost use Rattle.words.specs.Word.{word, long};
 ghost use Rattle.append.specs.Piece.{Room, Appended, AtFront};

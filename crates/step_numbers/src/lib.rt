@@ -1,4 +1,5 @@
 // The numbers of the table by steps: what is looked for, and how numbers are stored.
+#![tactic(auto)]
 ghost use Rattle.std.specs.Prelude.{◌≡◌, cond, ◌-◌, ◌≤◌, max};
 ghost use Rattle.chart.specs.Bytes.{arrow_of, most_of};
 ghost use Rattle.chart.specs.Shape.{Slot};
@@ -11,7 +12,7 @@ use chart::ArrowWords;
 const LIVE: u32 = 262144;
 
 // The least minutes, or the greatest up to a cap.
-#[derive(Drop)]
+#[derive(Clone, Copy)]
 pub enum Measure {
     Least,
     Greatest(u32),
@@ -20,7 +21,7 @@ pub enum Measure {
 // What is looked for, by the marks of two operands: of an A-until or an E-until, how minutes count, the number of a last
 // state that ends it (of an A-until where neither operand holds, of an E-until where the second does), and the number
 // that is enough.
-#[derive(Drop)]
+#[derive(Clone, Copy)]
 pub struct Target {
     pub all: bool,
     pub measure: Measure,

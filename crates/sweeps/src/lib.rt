@@ -1,4 +1,5 @@
 // Sweeps: all arrows are tried, from the last to the first.
+#![tactic(auto)]
 ghost use Rattle.std.specs.Prelude.{◌≤◌};
 ghost use Rattle.chart.specs.Bytes.{arrow_count};
 ghost use Rattle.visits.specs.Moves.{Given};
@@ -23,7 +24,7 @@ fn last_raising(way: Way, chart: &[u8], n: usize, floor: usize, k: usize, number
 }
 
 // Whether a sweep changed a number, and the arrow that was tried last, m if none was.
-#[derive(Drop)]
+#[derive(Clone, Copy)]
 pub struct Tally {
     pub any: bool,
     pub last: usize,

@@ -52,7 +52,7 @@ module _ {G : Chart} {go : ℕ → Type 0} {u d t : ℕ} (g : go u) (x : Step G 
 
   goes : (long : 1 ≤ d + minutes back) {s : ℕ} (p : Path G go (To u) s) (i : ℕ) → go ((round long p).state i)
   goes long p zero = goes_now p
-  goes long p (suc i) = goes long (onward p).0.1 i
+  goes long {s = s} p (suc i) = goes long {s = (onward p).0.0} (onward p).0.1 i
 
 -- a path to a loop that takes a minute, and round the loop for ever: every state satisfies go
 pub forever :

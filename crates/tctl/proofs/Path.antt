@@ -55,17 +55,17 @@ module _ {G : Chart} {go end : ℕ → Type 0} where
   minutes_cast e (step g x p) = refl
 
   -- a path to u, and then a path from u
-  abbrev pub append : {s : ℕ} (u : ℕ) → Path G go (To u) s → Path G go end u → Path G go end s
+  abbrev pub append : (u : ℕ) {s : ℕ} → Path G go (To u) s → Path G go end u → Path G go end s
   append u (stop e) q = cast e q
   append u (step g x p) q = step g x (append u p q)
 
   pub steps_append :
-      {s : ℕ} (u : ℕ) (p : Path G go (To u) s) (q : Path G go end u) → steps (append u p q) ≡ steps p + steps q
+      (u : ℕ) {s : ℕ} (p : Path G go (To u) s) (q : Path G go end u) → steps (append u p q) ≡ steps p + steps q
   steps_append u (stop e) q = omega (arith, steps_cast e q)
   steps_append u (step g x p) q = omega (arith, steps_append u p q)
 
   pub minutes_append :
-      {s : ℕ} (u : ℕ) (p : Path G go (To u) s) (q : Path G go end u) →
+      (u : ℕ) {s : ℕ} (p : Path G go (To u) s) (q : Path G go end u) →
       minutes (append u p q) ≡ minutes p + minutes q
   minutes_append u (stop e) q = omega (arith, minutes_cast e q)
   minutes_append u (step g x p) q = omega (arith, minutes_append u p q)

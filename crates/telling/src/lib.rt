@@ -1,4 +1,5 @@
 // A refusal told on standard error, under what is printed of it.
+#![tactic(auto)]
 ghost use Rattle.std.specs.Prelude.{◌≡◌, ◌≤◌, length};
 ghost use Rattle.append.specs.Piece.{Room, Appended, AtFront};
 ghost use Rattle.refusal_words.specs.Sentences.{counts_of};

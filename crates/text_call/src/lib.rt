@@ -1,4 +1,5 @@
 // The program desk_text: a rule's file in, its text out.
+#![tactic(auto)]
 ghost use Rattle.std.specs.Prelude.{◌≤◌, length};
 ghost use Rattle.text_call.specs.Printed.{Reports};
 

@@ -1,4 +1,5 @@
 // The program desk_rule: a text in; desk.rul out, or what is wrong with the text.
+#![tactic(auto)]
 ghost use Rattle.std.specs.Prelude.{◌≡◌, ◌+◌, ◌≤◌, length};
 ghost use Rattle.io.specs.Counts.{IsPrefixLen};
 ghost use Rattle.typed_call.specs.Answer.{input_read, rule_room, typed, Typing};
@@ -15,7 +16,7 @@ const RULE: usize = 519;
 const TEXT: usize = 8241;
 
 // What was answered, how many bytes of the rule were written, and how many of the text that is printed.
-#[derive(Drop)]
+#[derive(Clone, Copy)]
 struct Typed {
     outcome: Outcome,
     written: usize,

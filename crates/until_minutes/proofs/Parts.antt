@@ -78,15 +78,16 @@ module _
   part_wide a = lent_length (a * n) n marks
 
   pub rows_ready :
-      {count : ℕ} → count ≤ 256 →
+      {count : ℕ} → 1 ≤ count → count ≤ 256 →
       Ready count chart n m (part n marks w.a) (part n marks w.b) (part n marks t) numbers
-  rows_ready few =
+  rows_ready some few =
       record {
         passed = l.passed;
         first = part_wide w.a (lower_inside n l.operands.left l.table);
         second = part_wide w.b (lower_inside n l.operands.right l.table);
         wide = part_wide t l.table;
         room = omega (arith, l.room, mul-le-mul_right n few);
+        some = some;
         few = few;
       }
 
@@ -97,7 +98,7 @@ pub first_ready :
     MinuteReady (plain_asked all) chart n 0 ends words (part n marks w.a) (part n marks w.b) (part n marks t) numbers
 first_ready {n = n} {w = w} {marks = marks} all r =
     let l = r.lent in
-    let parts = rows_ready l {count = 1} (omega arith) in
+    let parts = rows_ready l {count = 1} (omega arith) (omega arith) in
     record {
       passed = l.passed;
       rows =

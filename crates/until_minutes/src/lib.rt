@@ -1,5 +1,6 @@
 // An until, minute by minute, from the operands' marks. Row t is the row beyond meanwhile: what a state makes when the
 // bound is behind it.
+#![tactic(auto)]
 ghost use Rattle.std.specs.Prelude.{◌≡◌, true, ℕ, ◌+◌, ◌*◌, ◌≤◌, ◌<◌, length, eqb};
 ghost use Rattle.tctl.specs.Formula.{at_least};
 ghost use Rattle.model.specs.Engine.{num};
@@ -182,14 +183,14 @@ fn fill_rows(
     marks: &[u8],
     numbers: &mut [u32],
 )
-    requires { MinutesLent chart.now n m t node marks.now numbers.old × (count ≤ 256) }
+    requires { MinutesLent chart.now n m t node marks.now numbers.old × (1 ≤ count) × (count ≤ 256) }
     ensures { RowsFilled (chart_of chart.now) n (task_by asked n t node marks.now) count
         numbers.new }
 {
     let left = node.a * n;
     let right = node.b * n;
     let at = t * n;
-    minute_table::fill_rows(
+    minute_rows::fill_rows(
         asked,
         count,
         chart,

@@ -1,5 +1,6 @@
 // What one arrow, or one loop, does to the numbers: the arrow raises the number of its start and is then its hint; the
 // loop raises a number to the cap. What is promised is about values; hints and marks may be anything.
+#![tactic(auto)]
 ghost use Rattle.std.specs.Prelude.{◌≡◌, Bool, false, ℕ, ◌<◌};
 ghost use Rattle.chart.specs.Bytes.{arrow_count};
 ghost use Rattle.hints.specs.Values.{values};

@@ -1,5 +1,6 @@
 // Walks along the hints: numbers rise by passes in the order of states, and by walks from state to state and back. A row is
 // lent for the states of a walk; it may have any length, and a walk ends where it does.
+#![tactic(auto)]
 ghost use Rattle.std.specs.Prelude.{◌≡◌, true, ◌≤◌, ◌<◌, length};
 ghost use Rattle.chart.specs.Shape.{Passed};
 ghost use Rattle.visits.specs.Moves.{Given, Goes};
@@ -34,7 +35,7 @@ fn pass(way: Way, back: bool, chart: &[u8], n: usize, m: usize, numbers: &mut [u
 }
 
 // Where a walk came to, by so many states.
-#[derive(Drop)]
+#[derive(Clone, Copy)]
 struct Steps {
     at: usize,
     count: usize,
@@ -140,7 +141,7 @@ fn again(way: Way, chart: &[u8], n: usize, m: usize, numbers: &mut [u32]) -> boo
 }
 
 // Which marks the next walk takes for those of states that it met, and whether a number may have changed.
-#[derive(Drop)]
+#[derive(Clone, Copy)]
 pub struct Track {
     pub seen: bool,
     pub moved: bool,

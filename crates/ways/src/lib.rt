@@ -1,5 +1,6 @@
 // The two ways of numbers, what an arrow offers on each, and what a number becomes by it. Minutes that fall are kept as
 // what they leave to the top, so that numbers rise on either way.
+#![tactic(auto)]
 ghost use Rattle.std.specs.Prelude.{◌≡◌, false, ◌-◌, ◌<◌, min};
 ghost use Rattle.chart.specs.Shape.{InRange, Slot};
 ghost use Rattle.hints.specs.Values.{radix, sided};
@@ -11,7 +12,7 @@ use chart::ArrowWords;
 pub const TOP: u32 = 131072;
 
 // How numbers rise: by the most minutes or by a tick, to what that gives or to the cap at once.
-#[derive(Drop)]
+#[derive(Clone, Copy)]
 pub struct Climb {
     pub ticks: bool,
     pub leap: bool,
@@ -19,7 +20,7 @@ pub struct Climb {
 }
 
 // Minutes are lowered, as what they leave to the top is raised, or are raised.
-#[derive(Drop)]
+#[derive(Clone, Copy)]
 pub enum Way {
     Lower,
     Raise(Climb),

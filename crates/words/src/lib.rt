@@ -1,4 +1,5 @@
 // Big-endian numbers in a lent slice.
+#![tactic(auto)]
 ghost use Rattle.std.specs.Prelude.{◌≡◌, ◌+◌, ◌<◌, length};
 ghost use Rattle.words.specs.Word.{word, long};
 

@@ -24,7 +24,7 @@ add-fill-rows-2 : tie.Need-overflow-add-fill-rows-2
 add-fill-rows-2 c = let first = c.before in let rows = inside first.before in search rules
 
 fill-rows-requires : tie.Need-fill-rows-requires
-fill-rows-requires c κs = let p = (start (known c)).requires in rows_ready p.0 p.1
+fill-rows-requires c κs = let p = (start (known c)).requires in rows_ready p.0 p.1 p.2
 
 returns : tie.Need-returns
 returns c =

@@ -1,11 +1,10 @@
 -- Invariant: of the first s states row t says so.
-use mathlib.Core.Path.{◌≡◌}
-use mathlib.Core.Bool.{false≢true}
+use mathlib.Core.Path.{◌≡◌, refl, sym}
+use mathlib.Core.Bool.{Bool, true, false, not, beq, false≢true}
 use Prim.Native.Nat.{ℕ, ◌≤◌, ◌<◌, ◌-◌}
 use native.Mathlib.Omega.{arith}
 use lib.Dec.{eqb}
 use borrow.Author.Count.{below_none, below_more}
-use Rattle.base.proofs.Truth.{differ_false}
 use Rattle.model.specs.Engine.{num}
 use Rattle.model.specs.Marks.{mark}
 use Rattle.until_minutes.proofs.same.Statement.{statement}
@@ -28,13 +27,19 @@ head c = c.before
 abbrev compared : tie.After-shared-slice-known2 invariant-loop decreases-loop → tie.In-loop invariant-loop decreases-loop
 compared c = c.before.before
 
+alike : (a b : Bool) → not (beq a b) ≡ false → a ≡ b
+alike true true e = refl
+alike true false e = e
+alike false true e = sym e
+alike false false e = refl
+
 -- the two tests say the same
 agree :
     (c : tie.Else1 invariant-loop decreases-loop) →
     let at = head (compared c.before) in
     let a = (start at).args in
     mark a.n a.marks.now a.t at.loop.s ≡ eqb (num a.numbers.now at.loop.s) 2
-agree c = differ_false _ _ c.if1.false
+agree c = alike _ _ c.if1.false
 
 loop-again : tie.Need-loop-preserved invariant-loop decreases-loop
 loop-again c = (omega arith, below_more _ _ (head (compared c.before)).loop.inv.1 (agree c))

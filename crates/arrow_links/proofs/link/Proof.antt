@@ -1,21 +1,20 @@
 -- Invariant: the arrows from i on are linked.
 use mathlib.Core.Path.{◌≡◌, refl, sym, ap, ◌∙◌}
-use mathlib.Core.Bool.{cond}
 use Prim.Native.Nat.{◌≤◌, ◌<◌, ◌-◌}
 use native.Mathlib.Omega.{arith}
 use lib.ListN.{length, length-set}
 use Rattle.chart.proofs.Reading.{shaped, counted}
-use Rattle.arrow_links.specs.Linked.{LinkedBy, side_of}
-use Rattle.arrow_links.proofs.Linking.{side_below, linked_none, linked_from, linked_more}
-use Rattle.arrow_links.proofs.link_by.Statement.{statement}
-use Rattle.arrow_links.proofs.link_by.Tie as tie
+use Rattle.arrow_links.specs.Linked.{Linked}
+use Rattle.arrow_links.proofs.Linking.{linked_none, linked_from, linked_more}
+use Rattle.arrow_links.proofs.link.Statement.{statement}
+use Rattle.arrow_links.proofs.link.Tie as tie
 
 abbrev invariant-loop : tie.invariant-loop
-invariant-loop ends chart n m firsts₀ nexts₀ i₀ firsts nexts i =
-    (i ≤ m) × (length firsts ≡ length firsts₀) × (length nexts ≡ length nexts₀) × LinkedBy (side_of ends chart) n m i firsts nexts
+invariant-loop chart n m firsts₀ nexts₀ i₀ firsts nexts i =
+    (i ≤ m) × (length firsts ≡ length firsts₀) × (length nexts ≡ length nexts₀) × Linked chart n m i firsts nexts
 
 abbrev decreases-loop : tie.decreases-loop
-decreases-loop ends chart n m firsts₀ nexts₀ i₀ firsts nexts i = i
+decreases-loop chart n m firsts₀ nexts₀ i₀ firsts nexts i = i
 
 -- the stops before the loop, each from a later one
 abbrev entry : tie.After-slice-known2 invariant-loop decreases-loop → tie.Start invariant-loop decreases-loop
@@ -37,18 +36,12 @@ emptied c = cleared c.before
 abbrev start : tie.At-loop invariant-loop decreases-loop → tie.Start invariant-loop decreases-loop
 start c = begun (emptied c)
 
--- a turn, where its arrow was read, and where its state was chosen
+-- a turn, and where its arrow was read
 abbrev turn : tie.After-arrow invariant-loop decreases-loop → tie.In-loop invariant-loop decreases-loop
 turn c = c.before
 
-abbrev read : tie.After-side invariant-loop decreases-loop → tie.After-arrow invariant-loop decreases-loop
+abbrev read : tie.After-slice-known4 invariant-loop decreases-loop → tie.After-arrow invariant-loop decreases-loop
 read c = c.before
-
-abbrev chosen : tie.After-slice-known4 invariant-loop decreases-loop → tie.After-side invariant-loop decreases-loop
-chosen c = c.before
-
-abbrev turned : tie.After-slice-known4 invariant-loop decreases-loop → tie.In-loop invariant-loop decreases-loop
-turned c = turn (read (chosen c))
 
 no-arrows-requires : tie.Need-no-arrows-requires invariant-loop decreases-loop
 no-arrows-requires c κs = (cast c).requires.1
@@ -70,33 +63,27 @@ inside c = omega (arith, c.loop-test.true, c.before.loop.invariant.0)
 few : (c : tie.In-loop invariant-loop decreases-loop) → c.before.loop.i - 1 < 2048
 few c = omega (arith, inside c, (shaped (start c.before).pre.0).few_arrows)
 
--- its state is one of the n
-state : (c : tie.After-side invariant-loop decreases-loop) → c.side.result < (start (turn (read c)).before).args.n
-state c =
-    let joined = (read c).arrow.ensures.1 in
-    let ends = (start (turn (read c)).before).args.ends in
-    omega (arith, c.side.ensures, side_below ends joined.end joined.start)
-
 mul-nexts : tie.Need-overflow-mul-nexts invariant-loop decreases-loop
-mul-nexts c = omega (arith, state c, (shaped (start (turn (read c)).before).pre.0).few_states)
+mul-nexts c = omega (arith, c.arrow.ensures.1.start, (shaped (start (turn c).before).pre.0).few_states)
 
 slice-read-nexts : tie.Need-slice-read-nexts invariant-loop decreases-loop
-slice-read-nexts c = omega (arith, state (chosen c), (turned c).before.loop.invariant.3.room_firsts)
+slice-read-nexts c =
+    omega (arith, (read c).arrow.ensures.1.start, (turn (read c)).before.loop.inv.3.room_firsts)
 
 slice-write-nexts : tie.Need-slice-write-nexts invariant-loop decreases-loop
-slice-write-nexts c = let t = turned c in omega (arith, inside t, t.before.loop.inv.3.room_nexts)
+slice-write-nexts c =
+    let t = turn (read c) in omega (arith, inside t, t.before.loop.inv.3.room_nexts)
 
 loop-again : tie.Need-loop-preserved invariant-loop decreases-loop
 loop-again c =
-    let t = turned c in
+    let t = turn (read c) in
     let loop = t.before.loop in
-    let ends = (start t.before).args.ends in
-    let is = (read (chosen c)).arrow.ensures.0 in (
+    let arrow = (read c).arrow.ensures in (
       omega (arith, inside t),
       simp length-set loop.inv.1,
       simp length-set loop.inv.2,
-      linked_more loop.inv.3 (omega (arith, t.loop-test.taken)) (inside t) (state (chosen c))
-          (ap (λ w. cond ends w.end w.start) (sym is) ∙ sym (chosen c).side.ensures),
+      linked_more loop.inv.3 (omega (arith, t.loop-test.taken)) (inside t) arrow.1.start
+          (ap (λ w. w.start) (sym arrow.0)),
     )
 
 same_length : tie.Need-same-length invariant-loop decreases-loop
@@ -105,10 +92,10 @@ same_length c = c.before.loop.invariant.1 ∙ (emptied c.before).no-arrows.ensur
 returns : tie.Need-returns invariant-loop decreases-loop
 returns c = linked_from c.before.loop.invariant.3 (omega (arith, c.loop-test.false))
 
-pub link-by-spec : {M : Type 1} → statement M
-link-by-spec =
+pub link-spec : {M : Type 1} → statement M
+link-spec =
     tie.close
     (tie.spec invariant-loop decreases-loop (λ c. omega (arith, (shaped (entry c).requires.0).few_arrows)) no-arrows-requires loop-holds
-    (λ c. omega arith) arrow-requires (λ c κs. tt) mul-nexts slice-read-nexts (λ c. omega (arith, few (turned c)))
-    slice-write-nexts (λ c. omega (arith, few (turned c))) (λ c. mul-nexts (chosen c)) slice-read-nexts
+    (λ c. omega arith) arrow-requires mul-nexts slice-read-nexts (λ c. omega (arith, few (turn (read c))))
+    slice-write-nexts (λ c. omega (arith, few (turn (read c)))) (λ c. mul-nexts (read c)) slice-read-nexts
     (λ c. omega arith) loop-again same_length (λ c. c.before.loop.invariant.2) returns)

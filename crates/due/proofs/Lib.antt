@@ -1,2 +1,0 @@
-pub mod Calling
-pub mod Turns

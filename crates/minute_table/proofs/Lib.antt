@@ -1,4 +1,0 @@
-pub mod Steady
-pub mod Starting
-pub mod NotDue
-pub mod Rows
