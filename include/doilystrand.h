@@ -1,7 +1,7 @@
 /*
  * The proved checker of timed rules over dispatch charts, for C.
  *
- * Link target/staticlib/libdoilystrand.a, which `rt staticlib doilystrand` writes. Every call takes any bytes, tests them itself and
+ * Link target/staticlib/libdoilystrand.a, which `tools/build doilystrand` writes. Every call takes any bytes, tests them itself and
  * returns; what it promises stands in docs/PROMISES.md, and the formats and the numbers of refusals in README.md.
  *
  * What C has to see to: a pointer is to as many elements as the size after it says (it may be null where that is 0),

@@ -1,4 +1,4 @@
-// Links the archive that `rt staticlib doilystrand` writes: a copy of its own, so that a build is of one archive.
+// Links the archive that `tools/build doilystrand` writes: a copy of its own, so that a build is of one archive.
 use std::path::PathBuf;
 use std::process::exit;
 
@@ -12,7 +12,7 @@ fn main() {
     };
     if let Err(why) = std::fs::copy(ARCHIVE, folder.join("libdoilystrand.a")) {
         fail(&format!(
-            "target/staticlib/libdoilystrand.a can't be copied ({why}): run `rt staticlib doilystrand` first"
+            "target/staticlib/libdoilystrand.a can't be copied ({why}): run `tools/build doilystrand` first"
         ));
     }
     println!("cargo:rustc-link-search=native={}", folder.display());

@@ -1,5 +1,6 @@
 // Bytes appended to a lent buffer, piece by piece.
 #![tactic(auto)]
+
 ghost use Rattle.std.specs.Prelude.{[], ◌∷◌, ◌<◌};
 ghost use Rattle.append.specs.BigEndian.{word_bytes, long_bytes};
 ghost use Rattle.append.specs.Piece.{Room, Appended};

@@ -1,5 +1,6 @@
 // The numbers among a program's arguments.
 #![tactic(auto)]
+
 ghost use Rattle.std.specs.Prelude.{◌≡◌, ◌+◌, ◌-◌, ◌*◌, ◌≤◌, min};
 ghost use Rattle.arguments.specs.Argument.{out_of_range, argument_of};
 

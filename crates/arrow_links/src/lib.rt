@@ -1,5 +1,6 @@
 // The arrows of each state, linked: its lowest, and after each arrow the next from the same state.
 #![tactic(auto)]
+
 ghost use Rattle.std.specs.Prelude.{◌≤◌, length};
 ghost use Rattle.base.specs.Entries.{Entries};
 ghost use Rattle.chart.specs.Shape.{Passed};

@@ -1,5 +1,6 @@
 // Arrows of a chart that passed, their states by the low bytes.
 #![tactic(auto)]
+
 ghost use Rattle.std.specs.Prelude.{◌≡◌, ◌+◌, ◌<◌, length};
 ghost use Rattle.words.specs.Word.{word};
 ghost use Rattle.chart.specs.Bytes.{arrow_count, arrow_words};

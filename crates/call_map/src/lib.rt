@@ -1,5 +1,6 @@
 // Map check: whether a detail chart is one under an overview chart, by a map.
 #![tactic(auto)]
+
 ghost use Rattle.std.specs.Prelude.{◌≡◌, [], ◌∷◌, ◌+◌, ◌*◌, ◌≤◌, length};
 ghost use Rattle.outcome.specs.Refusal.{first};
 ghost use Rattle.chart.specs.Bytes.{arrow_count, arrow_of};

@@ -1,5 +1,6 @@
 // The call that reads a rule typed as text.
 #![tactic(auto)]
+
 ghost use Rattle.std.specs.Prelude.{◌≡◌, ◌++◌, ◌*◌, ◌≤◌, length, take};
 ghost use Rattle.append.specs.Piece.{Room, Appended};
 ghost use Rattle.rule_grammar.specs.Machine.{judge};

@@ -1,3 +1,1 @@
 pub mod InOrder
-pub mod Held
-pub mod Calls

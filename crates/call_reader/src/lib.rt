@@ -1,6 +1,7 @@
 // The chart reader: it holds the lent bytes of a chart and the number of the next arrow. What it hands out is found by
-// `step`, which takes a plain slice and a number; the functions above it are thin, and proved by hand.
+// `step`, which takes a plain slice and a number; the functions above it are thin.
 #![tactic(auto)]
+
 ghost use Rattle.std.specs.Prelude.{◌≡◌};
 ghost use Rattle.call_reader.specs.Reading.{handed, step_of, moved};
 
@@ -70,7 +71,7 @@ pub fn next<'s, 'a>(r: &'s mut ChartReader<'a>) -> Handed
     stepped.handed
 }
 
-// What a reader of these bytes at this number hands out. Its parameters are plain, so no caller needs a proof by hand.
+// What a reader of these bytes at this number hands out. Its parameters are plain.
 pub fn hand_out(chart: &[u8], number: usize) -> Handed
     ensures { result ≡ handed chart.now number }
 {

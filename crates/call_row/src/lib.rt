@@ -1,5 +1,6 @@
 // The call row: the part of the overview's or the detail's marks table that holds a row, itself and not a copy.
 #![tactic(auto)]
+
 ghost use Rattle.std.specs.Prelude.{◌≡◌, length};
 ghost use Rattle.call_row.specs.Row.{chosen, Part, place_of};
 

@@ -1,5 +1,6 @@
 // Refusals 1 to 9 of a chart.
 #![tactic(auto)]
+
 ghost use Rattle.std.specs.Prelude.{◌≡◌, List, [], ◌∷◌, ℕ, suc, ◌≤◌, ◌<◌, length};
 ghost use Rattle.outcome.specs.Refusal.{first, rows};
 ghost use Rattle.chart.specs.Bytes.{arrow_words};
@@ -12,6 +13,8 @@ use chart::ArrowWords;
 use outcome::Outcome;
 
 // Rows 4 to 6.
+// Each return is the row whose test led there, the tests before it having failed.
+#[tactic(auto, using(std::proofs::lemmas::Bool::Decides::nat_tests), unfolding(outcome::specs::Refusal::first, chart::specs::Refusals::chart_table))]
 fn size_refusal(chart: &[u8]) -> Outcome
     requires { 9 ≤ length chart.now }
     ensures { result ≡ first (rows 3 3 (chart_table chart.now)) }

@@ -1,5 +1,6 @@
 // What has no form in C, as numbers: the kind of a rule, and what the chart reader hands out.
 #![tactic(auto)]
+
 ghost use Rattle.std.specs.Prelude.{◌≡◌};
 ghost use Rattle.call_reader.specs.declared.Handed.TheVariants.{Arrow, Finished};
 ghost use Rattle.coded.specs.Coded.{code, coded_arrow};

@@ -1,5 +1,6 @@
 // Which arrow of an overview chart covers an arrow of a detail chart.
 #![tactic(auto)]
+
 ghost use Rattle.std.specs.Prelude.{◌≡◌, ◌-◌, ◌≤◌, ◌<◌, ltb};
 ghost use Rattle.chart.specs.Bytes.{arrow_count, arrow_of, most_of};
 ghost use Rattle.chart.specs.Shape.{Small, Passed};

@@ -1,5 +1,6 @@
 // Numbers in decimal: their digits, and writing them into a lent buffer.
 #![tactic(auto)]
+
 ghost use Rattle.std.specs.Prelude.{◌≡◌, ◌+◌, ◌%◌};
 ghost use Rattle.append.specs.Piece.{Room, Appended};
 ghost use Rattle.decimal.specs.Decimal.{decimal};

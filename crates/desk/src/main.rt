@@ -1,5 +1,7 @@
 // The desk program; its test runs it on the chart Short.
 #![tactic(auto)]
-fn main() {
-    desk_call::run();
+use std::io;
+
+fn main(rt: HostRuntime) -> io::Result<()> {
+    desk_call::run(&rt)
 }

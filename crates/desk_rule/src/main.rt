@@ -1,5 +1,7 @@
 // Writes desk.rul from a text, thin over a proved answer; its test types a rule that stops early.
 #![tactic(auto)]
-fn main() {
-    typed_call::run();
+use std::io;
+
+fn main(rt: HostRuntime) -> io::Result<()> {
+    typed_call::run(&rt)
 }

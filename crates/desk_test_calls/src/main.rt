@@ -6,6 +6,8 @@ ghost use Rattle.desk_test_calls.specs.Turned.{turned};
 
 use call_reader::Handed;
 use call_row::Choice;
+use std::io;
+use std::io::Print;
 
 // What a reader hands out, and what it hands out after that.
 #[derive(Clone, Copy)]
@@ -24,24 +26,23 @@ fn turn(chart: &[u8], number: usize) -> Turned
     Turned { first, following }
 }
 
-fn print(text: &[u8]) {
-    io::write_all(libc::STDOUT_FILENO, text);
+fn print(rt: &HostRuntime, text: &[u8]) -> io::Result<()> {
+    rt.stdout().write_all(text)
 }
 
-fn print_word(word: u64) {
-    print(b" ");
-    io::print_decimal(libc::STDOUT_FILENO, word);
+fn print_word(rt: &HostRuntime, word: u64) -> io::Result<()> {
+    print!(rt; " {word}")
 }
 
-fn print_handed(handed: Handed) {
+fn print_handed(rt: &HostRuntime, handed: Handed) -> io::Result<()> {
     match handed {
         Handed::Arrow(a) => {
-            print_word(a.start as u64);
-            print_word(a.end as u64);
-            print_word(a.fewest as u64);
-            print_word(a.most as u64);
+            print_word(rt, a.start as u64)?;
+            print_word(rt, a.end as u64)?;
+            print_word(rt, a.fewest as u64)?;
+            print_word(rt, a.most as u64)
         }
-        Handed::Finished => print(b" finished"),
+        Handed::Finished => print(rt, b" finished"),
     }
 }
 
@@ -53,36 +54,42 @@ fn is_finished(handed: Handed) -> bool {
 }
 
 // The line of one number; whether the reader says finished there.
-fn print_turn(chart: &[u8], number: usize) -> bool {
+fn print_turn(rt: &HostRuntime, chart: &[u8], number: usize) -> io::Result<bool> {
     let t = turn(chart, number);
-    io::print_decimal(libc::STDOUT_FILENO, number as u64);
-    print(b":");
+    print!(rt; "{number}:")?;
     let first = t.first;
-    print_handed(first);
-    print(b", then");
+    print_handed(rt, first)?;
+    print(rt, b", then")?;
     let following = t.following;
-    print_handed(following);
-    print(b"\n");
-    is_finished(first)
+    print_handed(rt, following)?;
+    print(rt, b"\n")?;
+    Ok(is_finished(first))
 }
 
 // A line for each number, up to the first at which the reader says finished. No chart has more than 2,048 arrows.
-fn print_arrows(chart: &[u8]) {
+fn print_arrows(rt: &HostRuntime, chart: &[u8]) -> io::Result<()> {
     for number in 0..=2048 {
-        if print_turn(chart, number) {
-            return;
+        if print_turn(rt, chart, number)? {
+            return Ok(());
         }
     }
+    Ok(())
 }
 
-fn print_bytes(bytes: &[u8]) {
+fn print_bytes(rt: &HostRuntime, bytes: &[u8]) -> io::Result<()> {
     for i in 0..bytes.len() {
-        print_word(words::wide(bytes[i]) as u64);
+        print_word(rt, words::wide(bytes[i]) as u64)?;
     }
+    Ok(())
 }
 
 // The bytes of the row that is asked for: the choice in byte 0 (0: overview), n in bytes 1 to 2, t in 3 to 4.
-fn print_row<'a>(overview: &'a [u8], detail: &'a [u8], ask: &[u8; 5]) {
+fn print_row<'a>(
+    rt: &HostRuntime,
+    overview: &'a [u8],
+    detail: &'a [u8],
+    ask: &[u8; 5],
+) -> io::Result<()> {
     let mut choice = Choice::Detail;
     if ask[0] == 0 {
         choice = Choice::Overview;
@@ -90,18 +97,18 @@ fn print_row<'a>(overview: &'a [u8], detail: &'a [u8], ask: &[u8; 5]) {
     let n = words::be16(ask, 1);
     let t = words::be16(ask, 3);
     let row = call_row::row(overview, detail, choice, n as usize, t as usize);
-    print(b"row");
-    print_bytes(row);
-    print(b"\n");
+    print(rt, b"row")?;
+    print_bytes(rt, row)?;
+    print(rt, b"\n")
 }
 
-fn main() {
+fn main(rt: HostRuntime) -> io::Result<()> {
     let mut chart = [0; desk_call::CHART];
     let mut rule = [0; desk_call::RULE];
     let mut ask = [0; 5];
-    let chart_size = desk_call::read(b"desk.cht", &mut chart);
-    let rule_size = desk_call::read(b"desk.rul", &mut rule);
-    desk_call::read(b"row.ask", &mut ask);
-    print_row(&chart[..chart_size], &rule[..rule_size], &ask);
-    print_arrows(&chart[..chart_size]);
+    let chart_size = desk_call::read(&rt, b"desk.cht", &mut chart);
+    let rule_size = desk_call::read(&rt, b"desk.rul", &mut rule);
+    desk_call::read(&rt, b"row.ask", &mut ask);
+    print_row(&rt, &chart[..chart_size], &rule[..rule_size], &ask)?;
+    print_arrows(&rt, &chart[..chart_size])
 }

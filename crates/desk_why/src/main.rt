@@ -1,5 +1,7 @@
 // Shows why, thin over a proved writer; its test asks of the rule at state 0 of the chart Short.
 #![tactic(auto)]
-fn main() {
-    why_call::run();
+use std::io;
+
+fn main(rt: HostRuntime) -> io::Result<()> {
+    why_call::run(&rt)
 }

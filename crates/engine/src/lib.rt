@@ -2,6 +2,7 @@
 // of a chart raise the numbers of their starts (they are relaxed), until none does. The arrow that raised a number last is
 // its hint (the predecessor). In turn numbers rise along the hints and all arrows are tried.
 #![tactic(auto)]
+
 ghost use Rattle.std.specs.Prelude.{◌≡◌, true, cond, ℕ, ◌+◌, ◌≤◌, ◌<◌, min, length};
 ghost use Rattle.model.specs.Engine.{num};
 ghost use Rattle.hints.specs.Values.{radix, tested_of};

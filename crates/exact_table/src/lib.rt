@@ -1,6 +1,7 @@
 // The fewest steps to the end of an E-until, exactly c, for each number of minutes left and each state: a row of lent
 // numbers for each minute, from no minute left up.
 #![tactic(auto)]
+
 ghost use Rattle.std.specs.Prelude.{◌≡◌, cond, ◌&&◌, suc, ◌*◌, min};
 ghost use Rattle.base.specs.Entries.{Entries};
 ghost use Rattle.moves.specs.Moves.{arrow_by, move_of};

@@ -3,6 +3,7 @@ use mathlib.Core.Path.{◌≡◌, sym, ap, subst, ◌∙◌}
 use mathlib.Core.Bool.{Bool}
 use mathlib.Core.List.{List, [], ◌∷◌}
 use Prim.Native.Nat.{ℕ, suc, ◌-◌, ◌≤◌, ◌<◌}
+use native.Mathlib.Omega.{arith}
 use lib.ListN.{length}
 use lib.Dec.{eqb}
 use borrow.Author.Tests.{eqb-true}
@@ -10,14 +11,14 @@ use Rattle.base.proofs.Truth.{and_iff}
 use Rattle.outcome.specs.Refusal.{found}
 use Rattle.tctl.specs.Chart.{Arrow}
 use Rattle.chart.specs.declared.ArrowWords.{ArrowWords}
-use Rattle.chart.specs.Bytes.{arrow_of, chart_of}
+use Rattle.chart.specs.Bytes.{arrow_words, arrow_of, chart_of}
 use Rattle.shown.specs.Shown.{Position, place}
 use Rattle.shown.specs.Exact.{Serves, Onward, first_minutes, serves, or_number, walk_down}
 use Rattle.shown.specs.Steps.{first_arrow}
 use Rattle.shown.proofs.Serves.{serves_iff}
 use Rattle.shown.proofs.Exact.{first_onward, length_down}
 use Rattle.exact_table.specs.Rows.{left_in}
-use Rattle.exact_walk.specs.Walk.{steps_in, walk_in}
+use Rattle.exact_walk.specs.Walk.{steps_in, walk_in, Walkable}
 use Rattle.exact_walk.proofs.Minutes.{found_first}
 
 pub walk_in_length :
@@ -72,3 +73,16 @@ stepped chart n table s {left} {k} {m} {d} {a} e few onward is minutes =
 
     serve : Serves f m s (arrow_of a) d
     serve = subst (Serves f m s (arrow_of a)) (sym same) first_serves
+
+-- where steps are left, by the numbers, arrow i was found and its first minutes
+pub step_down :
+    {chart : List ℕ} {n m c k s : ℕ} {table out : List ℕ} → Walkable chart n m c k s table out →
+    {left minutes state d : ℕ} {a : ArrowWords} (i : ℕ) → state < n → minutes ≤ c → left < 257 →
+    left_in n table minutes state ≡ left → 0 < left → a ≡ arrow_words chart i →
+    arrow_of (arrow_words chart i) ≡
+    first_arrow (serves (steps_in n table (left - 1)) minutes state) (chart_of chart).arrows →
+    d ≡ or_number (suc minutes) (first_minutes (steps_in n table (left - 1)) minutes (arrow_of a)) →
+    Stepped chart n table left (left - 1) minutes state a d
+step_down {chart} {n} {table = table} p {left} {minutes} {state} i h l low e some read is first =
+    stepped chart n table state (omega arith) (omega (arith, p.inside.few))
+    (p.down (left - 1) minutes state l h (omega (arith, e)) (omega arith)) (ap arrow_of read ∙ is) first

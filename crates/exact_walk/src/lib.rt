@@ -1,5 +1,6 @@
 // The walk by the fewest steps for each minute left, written as the run that is shown.
 #![tactic(auto)]
+
 ghost use Rattle.std.specs.Prelude.{◌≡◌, suc, ◌<◌};
 ghost use Rattle.append.specs.Piece.{Appended};
 ghost use Rattle.chart.specs.Bytes.{arrow_words, arrow_of, chart_of};

@@ -1,5 +1,6 @@
 // Rows of marks, filled state by state: from the rows of two operands, from labels, or from numbers.
 #![tactic(auto)]
+
 ghost use Rattle.std.specs.Prelude.{◌≡◌, true, ℕ, ◌+◌, ◌*◌, ◌≤◌, ◌<◌, ◌/◌, ◌%◌, ◌^◌, length, get_or, eqb};
 ghost use Rattle.model.specs.Engine.{num};
 ghost use Rattle.model.specs.Marks.{mark};

@@ -1,5 +1,6 @@
 // The head that charts, rules and maps share: the version and the stated length.
 #![tactic(auto)]
+
 ghost use Rattle.std.specs.Prelude.{◌≡◌, ◌≤◌};
 ghost use Rattle.outcome.specs.Refusal.{first};
 ghost use Rattle.head.specs.Head.{head_rows};

@@ -2,6 +2,7 @@
 // walks and a hint, an arrow's number. The side puts a state where no comparison changes it. Nobody takes hints on trust:
 // what is found by them is tested, and nothing is promised of hints and marks.
 #![tactic(auto)]
+
 ghost use Rattle.std.specs.Prelude.{◌≡◌, Bool, true, cond, ℕ, ◌<◌, length, eqb};
 ghost use Rattle.chart.specs.Bytes.{chart_of};
 ghost use Rattle.chart.specs.Shape.{Passed};

@@ -1,5 +1,6 @@
 // What numbers start from, state by state, by the marks of two operands. A number keeps its hint.
 #![tactic(auto)]
+
 ghost use Rattle.std.specs.Prelude.{◌≡◌, ◌+◌, ◌*◌, ◌≤◌, length};
 ghost use Rattle.model.specs.Marks.{mark};
 ghost use Rattle.chart.specs.Shape.{Passed};

@@ -1,5 +1,6 @@
 // One line of a text that holds many, each ended by a newline.
 #![tactic(auto)]
+
 ghost use Rattle.std.specs.Prelude.{◌≡◌, ◌≤◌, length, drop};
 ghost use Rattle.append.specs.Piece.{Room, Appended};
 ghost use Rattle.lines.specs.Line.{behind, line};

@@ -1,5 +1,6 @@
 // The text of a result, written into a lent buffer piece by piece.
 #![tactic(auto)]
+
 ghost use Rattle.std.specs.Prelude.{◌≡◌, ◌+◌, ◌*◌, ◌≤◌, length};
 ghost use Rattle.listing.specs.Text.{joined, mark_line, node_line, two_numbers};
 ghost use Rattle.listing.specs.Text.{listing, refused_line};

@@ -1,6 +1,7 @@
 // Refusal 19: a state from which no loop holding an arrow with most above 0 can be reached. The engine decides it on lent
 // numbers, one a state: a path of n ticks goes round such a loop.
 #![tactic(auto)]
+
 ghost use Rattle.std.specs.Prelude.{◌≡◌, [], ◌∷◌, ℕ, length};
 ghost use Rattle.outcome.specs.Refusal.{first};
 ghost use Rattle.model.specs.Engine.{num};

@@ -1,5 +1,6 @@
 // A map's bytes: its entries, and the rows of map check that speak of them alone.
 #![tactic(auto)]
+
 ghost use Rattle.std.specs.Prelude.{◌≡◌, [], ◌∷◌, ◌+◌, ◌*◌, ◌≤◌, ◌<◌, length};
 ghost use Rattle.outcome.specs.Refusal.{first};
 ghost use Rattle.map.specs.Bytes.{entry};

@@ -1,5 +1,6 @@
 // Sets of numbers below 64: a word with a bit for each.
 #![tactic(auto)]
+
 ghost use Rattle.std.specs.Prelude.{◌≡◌, ◌<◌};
 ghost use Rattle.masks.specs.Member.{member, Put};
 

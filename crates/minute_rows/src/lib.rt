@@ -2,6 +2,7 @@
 // last row up to this one in which the state makes it, counted from 1, which is the row beyond. So an arrow's slot
 // takes one comparison, however wide it is.
 #![tactic(auto)]
+
 ghost use Rattle.std.specs.Prelude.{◌≡◌, cond, suc, ◌*◌};
 ghost use Rattle.base.specs.Entries.{Entries};
 ghost use Rattle.chart.specs.Bytes.{chart_of};

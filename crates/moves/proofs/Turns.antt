@@ -12,6 +12,8 @@ use borrow.Author.Tests.{ltb-true, lt-ltb}
 use Rattle.base.proofs.Truth.{and_iff, no_test}
 use Rattle.chart.specs.declared.ArrowWords.{ArrowWords}
 use Rattle.chart.specs.Bytes.{arrow_count, arrow_words, arrow_of}
+use Rattle.chart.specs.Shape.{Passed}
+use Rattle.chart.proofs.Reading.{shaped}
 use Rattle.arrow_links.specs.Linked.{Lowest}
 use Rattle.moves.specs.declared.Ends.{Ends}
 use Rattle.moves.specs.Moves.{WithArrow, Collected}
@@ -25,6 +27,10 @@ pub record Adding (chart : List ℕ) (m s i : ℕ) (before after : Ends) (old ne
   pub are :
       (goes : ℕ → Bool) → goes s ≡ true → Before chart goes s before old →
       Collecting chart (taken chart goes (turn_of s i)) after new
+
+-- no chart that passes has more than 2048 arrows
+pub few_arrows : {chart : List ℕ} {n m : ℕ} → Passed chart n m → arrow_count chart ≤ 2048
+few_arrows p = omega (arith, p.arrows, (shaped p).few_arrows)
 
 module _ (chart : List ℕ) (small : arrow_count chart ≤ 2048) (goes : ℕ → Bool) where
   abbrev start : ℕ → ℕ

@@ -2,6 +2,7 @@
 // states where an until is open. Those that can take no minute stand from the first word up, the others from the last
 // down.
 #![tactic(auto)]
+
 ghost use Rattle.std.specs.Prelude.{◌≡◌, ◌≤◌, ◌<◌, min, length};
 ghost use Rattle.chart.specs.Bytes.{arrow_of};
 ghost use Rattle.chart.specs.Shape.{Passed};

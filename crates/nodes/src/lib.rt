@@ -1,5 +1,6 @@
 // Settling one node: its row of marks from the rows of its operands; an until by the first engine, or minute by minute.
 #![tactic(auto)]
+
 ghost use Rattle.std.specs.Prelude.{◌≡◌, ◌≤◌, ◌<◌};
 ghost use Rattle.model.specs.Decide.{holds};
 ghost use Rattle.chart.specs.Bytes.{chart_of};

@@ -1,5 +1,6 @@
 // The outcome of a call: a refusal's number and place and which paper was wrong, or success.
 #![tactic(auto)]
+
 ghost use Rattle.std.specs.Prelude.{◌≡◌, ◌≤◌};
 ghost use Rattle.outcome.specs.Entry.{entry_of, overview};
 ghost use Rattle.outcome.specs.Refusal.{success, outcome, refusal};

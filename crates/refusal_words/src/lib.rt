@@ -1,5 +1,6 @@
 // What a refusal says in words: the papers' own sentence, which paper was wrong, and what the place counts.
 #![tactic(auto)]
+
 ghost use Rattle.std.specs.Prelude.{◌≡◌, ◌<◌};
 ghost use Rattle.append.specs.Piece.{Room, Appended};
 ghost use Rattle.lines.specs.Line.{line};

@@ -1,5 +1,6 @@
 // The room that is lent to a call: rows 17 and 18.
 #![tactic(auto)]
+
 ghost use Rattle.std.specs.Prelude.{◌≡◌, ◌≤◌};
 ghost use Rattle.outcome.specs.Refusal.{first};
 ghost use Rattle.room.specs.Room.{size_for, room_table};

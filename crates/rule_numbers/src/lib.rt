@@ -1,5 +1,6 @@
 // Bytes and numbers of a rule's text, at their places.
 #![tactic(auto)]
+
 ghost use Rattle.std.specs.Prelude.{◌≡◌, true, ◌-◌, ◌≤◌, ◌<◌, length, drop};
 ghost use Rattle.rule_grammar.specs.Machine.{grows as Machine·grows};
 ghost use Rattle.rule_numbers.specs.Byte.{byte_is};

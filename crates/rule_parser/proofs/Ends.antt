@@ -10,7 +10,7 @@ use borrow.Author.Tests.{lt-ltb, ltb-true}
 use Rattle.base.proofs.Truth.{cond_elim}
 use Rattle.rule_grammar.specs.Grammar.{Verdict, formula}
 use Rattle.rule_grammar.specs.Machine.{judge}
-use Rattle.rule_bytes.specs.RuleBytes.{nodes, nodes_from}
+use Rattle.rule_bytes.specs.RuleBytes.{nodes_from}
 use Rattle.rule_parser.specs.declared.Spot.{Spot}
 use Rattle.rule_parser.specs.Standing.{spot, Standing, Turned}
 use Rattle.rule_parser.specs.Read.{Reads, faulty, whole}

@@ -1,5 +1,5 @@
 -- Where reading stands in a text: what the machine of `rule_grammar` has come to there, in bytes.
-use Rattle.std.specs.Prelude.{◌≡◌, List, [], ◌++◌, ℕ, ◌+◌, ◌-◌, ◌*◌, ◌≤◌, ◌<◌, length, take}
+use Rattle.std.specs.Prelude.{◌≡◌, List, ◌++◌, ℕ, ◌+◌, ◌-◌, ◌*◌, ◌≤◌, ◌<◌, length, take}
 use Rattle.tctl.specs.Formula.{Formula}
 use Rattle.rule_grammar.specs.Grammar.{fault, formula}
 use Rattle.rule_grammar.specs.Machine.{Context, start, ended, State, at, judge, from}

@@ -1,6 +1,7 @@
 // Reads a rule's text, token by token. The formulas that are open are kept in a lent buffer, innermost last, and the nodes
 // in another.
 #![tactic(auto)]
+
 ghost use Rattle.std.specs.Prelude.{◌≡◌, cond, ◌≤◌, ◌<◌, length, eqb};
 ghost use Rattle.rule_grammar.specs.Machine.{judge};
 ghost use Rattle.rule_parser.specs.Standing.{spot, Within, Starting, Behind, Standing, Turned};

@@ -1,5 +1,6 @@
 // Refusals 10 to 16 of a rule, and 63.
 #![tactic(auto)]
+
 ghost use Rattle.std.specs.Prelude.{◌≡◌, [], ◌∷◌, ◌≤◌, length};
 ghost use Rattle.outcome.specs.Refusal.{first, rows};
 ghost use Rattle.rule.specs.Shape.{Shape};
@@ -38,6 +39,7 @@ fn wrong_a(form: u8, a: usize) -> bool
 }
 
 // The fault of an until's kind and c: "exactly" goes up to 255.
+#[tactic(auto, using(std::proofs::lemmas::Bool::Decides::nat_tests), unfolding(rule::specs::Refusals::wrong_bound))]
 fn wrong_bound(w: NodeWords) -> bool
     ensures { result ≡ wrong_bound w }
 {

@@ -15,7 +15,7 @@ use Rattle.rule_grammar.specs.Grammar.{fault}
 use Rattle.rule_grammar.specs.Machine.{Sign, less, more, equal, Join, conj, disj}
 use Rattle.rule_grammar.specs.Machine.{until, Opening, pair, timed, Context, opened, joined}
 use Rattle.rule_grammar.specs.Machine.{start, ended, spaced, awaited, compared, equalled, linked, State, at, step, done}
-use Rattle.rule_grammar.specs.Machine.{after, further as further-step, from, most_of}
+use Rattle.rule_grammar.specs.Machine.{further as further-step, from, most_of}
 use Rattle.decimal.specs.Value.{is_digit as digit}
 use Rattle.decimal.proofs.DigitRange.{digit_true}
 use Rattle.rule_grammar.proofs.Signs.{most_range}

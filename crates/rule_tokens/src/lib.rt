@@ -1,5 +1,6 @@
 // The tokens of a rule's text, each read at its place.
 #![tactic(auto)]
+
 ghost use Rattle.std.specs.Prelude.{◌≡◌, ◌≤◌, length};
 ghost use Rattle.tctl.specs.Kind.{Runs};
 ghost use Rattle.rule_grammar.specs.Machine.{Join, Opening, Sign, pair, timed, most_of};

@@ -1,5 +1,6 @@
 // Refusal 16 of a rule: how often each node is an operand, in one pass over the nodes.
 #![tactic(auto)]
+
 ghost use Rattle.std.specs.Prelude.{◌≡◌, true, [], ◌∷◌, ℕ, ◌+◌, ◌<◌, eqb};
 ghost use Rattle.outcome.specs.Refusal.{first};
 ghost use Rattle.rule.specs.Shape.{Ordered, SmallOperands};

@@ -1,5 +1,6 @@
 // The text of a shown run, written into a lent buffer line by line.
 #![tactic(auto)]
+
 ghost use Rattle.std.specs.Prelude.{◌≡◌, ◌+◌, ◌*◌, ◌^◌, ◌≤◌, ◌<◌, length};
 ghost use Rattle.words.specs.Word.{word, long};
 ghost use Rattle.append.specs.Piece.{Room, Appended, AtFront};

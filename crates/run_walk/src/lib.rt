@@ -1,5 +1,6 @@
 // The walk down the table by steps, written as the run that is shown.
 #![tactic(auto)]
+
 ghost use Rattle.std.specs.Prelude.{◌≡◌, ◌<◌};
 ghost use Rattle.append.specs.Piece.{Room, Appended};
 ghost use Rattle.chart.specs.Bytes.{arrow_of, most_of};

@@ -1,5 +1,6 @@
 // Refusals 60 and 61 of show: a mark that can't be shown, and scratch that is short.
 #![tactic(auto)]
+
 ghost use Rattle.std.specs.Prelude.{◌≡◌, ◌≤◌};
 ghost use Rattle.outcome.specs.Refusal.{first};
 ghost use Rattle.show_refusals.specs.Fits.{table_size};

@@ -1,5 +1,6 @@
 // The run that shows a mark: what is looked for at its node, the search in a lent table, and the walk that is written.
 #![tactic(auto)]
+
 ghost use Rattle.std.specs.Prelude.{◌≡◌, ◌<◌};
 ghost use Rattle.show_refusals.specs.Fits.{table_cleared};
 ghost use Rattle.model.specs.Marks.{flag};

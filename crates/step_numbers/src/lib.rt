@@ -1,5 +1,6 @@
 // The numbers of the table by steps: what is looked for, and how numbers are stored.
 #![tactic(auto)]
+
 ghost use Rattle.std.specs.Prelude.{◌≡◌, cond, ◌-◌, ◌≤◌, max};
 ghost use Rattle.chart.specs.Bytes.{arrow_of, most_of};
 ghost use Rattle.chart.specs.Shape.{Slot};

@@ -1,5 +1,6 @@
 // The table by steps on lent numbers: a row for each number of steps, and in it a number for each state.
 #![tactic(auto)]
+
 ghost use Rattle.std.specs.Prelude.{◌+◌, ◌≤◌, ◌<◌, length};
 ghost use Rattle.base.specs.Entries.{Entries};
 ghost use Rattle.model.specs.Engine.{num};

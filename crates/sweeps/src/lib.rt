@@ -1,5 +1,6 @@
 // Sweeps: all arrows are tried, from the last to the first.
 #![tactic(auto)]
+
 ghost use Rattle.std.specs.Prelude.{◌≤◌};
 ghost use Rattle.chart.specs.Bytes.{arrow_count};
 ghost use Rattle.visits.specs.Moves.{Given};

@@ -1,11 +1,15 @@
 // A refusal told on standard error, under what is printed of it.
 #![tactic(auto)]
+
 ghost use Rattle.std.specs.Prelude.{◌≡◌, ◌≤◌, length};
 ghost use Rattle.append.specs.Piece.{Room, Appended, AtFront};
 ghost use Rattle.refusal_words.specs.Sentences.{counts_of};
 ghost use Rattle.telling.specs.Told.{counted_text, told_text, told};
 
 use outcome::Outcome;
+use std::env::{Env, FillError};
+use std::io;
+use std::io::Print;
 
 // The bytes of the longest line.
 const LINE: usize = 192;
@@ -58,10 +62,28 @@ fn tell_into(program: &[u8], outcome: Outcome, out: &mut [u8]) -> usize
 }
 
 // Prints that line.
-pub fn tell(program: &[u8], outcome: Outcome)
+pub fn tell<P: Print>(to: &P, program: &[u8], outcome: Outcome) -> io::Result<()>
     requires { length program.now ≤ 9 }
 {
     let mut line = [0; LINE];
     let size = tell_into(program, outcome, &mut line);
-    io::write_all(libc::STDERR_FILENO, &line[..size]);
+    to.write_all(&line[..size])
+}
+
+// Whether the program was started with argument i; argument 0 is its own name.
+fn is_given<E: Env>(env: &E, i: usize) -> bool {
+    let mut none = [0; 0];
+    match env.arg(i, &mut none) {
+        Ok(_) => true,
+        Err(FillError::TooLong) => true,
+        Err(FillError::NotPresent) => false,
+    }
+}
+
+// Whether the program was started with so many arguments, its own name among them.
+pub fn has_arguments<E: Env>(env: &E, count: usize) -> bool {
+    if count != 0 && !is_given(env, count - 1) {
+        return false;
+    }
+    !is_given(env, count)
 }

@@ -5,6 +5,9 @@ ghost use Rattle.io.specs.Counts.{IsPrefixLen};
 ghost use Rattle.typed_call.specs.Answer.{input_read, rule_room, typed, Typing};
 
 use outcome::Outcome;
+use std::fs;
+use std::io;
+use std::io::{Print, Write};
 
 // How many bytes of standard input are read: one more than the longest text and its newline have.
 const INPUT: usize = 4098;
@@ -63,62 +66,55 @@ fn answer(input: &[u8], rule: &mut [u8], out: &mut [u8]) -> Typed
 }
 
 // The first bytes of standard input.
-fn read_input(space: &mut [u8]) -> usize
+fn read_input(rt: &HostRuntime, space: &mut [u8]) -> usize
     requires { length space.old ≡ input_read }
     ensures { IsPrefixLen result space.new }
 {
-    io::read_full(libc::STDIN_FILENO, space)
+    let mut input = rt.stdin();
+    desk_call::read_full(&mut input, space)
 }
 
-// Whether all of the rule went into a new file.
-fn write_new(rule: &[u8]) -> bool {
-    os::unlink(b"desk.rul.new");
-    let file = os::create(b"desk.rul.new");
-    if file < 0 {
-        return false;
-    }
-    let whole = io::write_all(file, rule);
-    let closed = libc::close(file);
-    whole && closed == 0
+// All of the rule goes into a new file.
+fn write_new(rt: &HostRuntime, rule: &[u8]) -> io::Result<()> {
+    if fs::remove_file(rt, "desk.rul.new").is_err() {}
+    let mut file = fs::create(rt, "desk.rul.new")?;
+    file.write_all(rule)
 }
 
 // The rule becomes desk.rul, which stays as it was if that fails: the new file takes its name only once it is whole.
-fn save(rule: &[u8]) {
-    if write_new(rule) && os::rename(b"desk.rul.new", b"desk.rul") == 0 {
-        return;
+fn save(rt: &HostRuntime, rule: &[u8]) -> io::Result<()> {
+    if write_new(rt, rule).is_ok() && fs::rename(rt, "desk.rul.new", "desk.rul").is_ok() {
+        return Ok(());
     }
-    os::unlink(b"desk.rul.new");
-    io::write_all(
-        libc::STDERR_FILENO,
-        b"desk_rule: desk.rul can't be written\n",
-    );
+    if fs::remove_file(rt, "desk.rul.new").is_err() {}
+    rt.stderr()
+        .write_all(b"desk_rule: desk.rul can't be written\n")
 }
 
-fn print_usage() {
-    io::write_all(
-        libc::STDERR_FILENO,
+fn print_usage(rt: &HostRuntime) -> io::Result<()> {
+    rt.stderr().write_all(
         b"usage: desk_rule\nIt reads a rule's text from standard input and writes desk.rul here.\nOne last newline is not part of the text.\n",
-    );
+    )
 }
 
 // Reads a text, and writes desk.rul or prints and tells what is wrong with the text. There is no argument but the
 // program's name.
-pub fn run() {
-    if os::arg_count() != 1 {
-        print_usage();
-        return;
+pub fn run(rt: &HostRuntime) -> io::Result<()> {
+    if !telling::has_arguments(rt, 1) {
+        return print_usage(rt);
     }
     let mut input = [0; INPUT];
     let mut rule = [0; RULE];
     let mut text = [0; TEXT];
-    let size = read_input(&mut input);
+    let size = read_input(rt, &mut input);
     let typed = answer(&input[..size], &mut rule, &mut text);
     let written = typed.written;
     let printed = typed.printed;
-    io::write_all(libc::STDOUT_FILENO, &text[..printed]);
+    rt.stdout().write_all(&text[..printed])?;
     let outcome = typed.outcome;
-    telling::tell(b"desk_rule", outcome);
+    telling::tell(&rt.stderr(), b"desk_rule", outcome)?;
     if written != 0 {
-        save(&rule[..written]);
+        return save(rt, &rule[..written]);
     }
+    Ok(())
 }

@@ -1,5 +1,6 @@
 // What is printed of a typed text that is refused, written into a lent buffer line by line.
 #![tactic(auto)]
+
 ghost use Rattle.std.specs.Prelude.{◌≡◌, ◌+◌, ◌≤◌, length};
 ghost use Rattle.append.specs.Piece.{Room, Appended, AtFront};
 ghost use Rattle.typed_listing.specs.Refused.{shown_byte, shown_text, spaces, caret_line, refused_text};

@@ -1,6 +1,7 @@
 // An until, minute by minute, from the operands' marks. Row t is the row beyond meanwhile: what a state makes when the
 // bound is behind it.
 #![tactic(auto)]
+
 ghost use Rattle.std.specs.Prelude.{◌≡◌, true, ℕ, ◌+◌, ◌*◌, ◌≤◌, ◌<◌, length, eqb};
 ghost use Rattle.tctl.specs.Formula.{at_least};
 ghost use Rattle.model.specs.Engine.{num};

@@ -1,6 +1,7 @@
 // The engine on an until: from the operands' marks, with row t lent to it meanwhile; and the states from which no run
 // fails the until or waits for it.
 #![tactic(auto)]
+
 ghost use Rattle.std.specs.Prelude.{suc, ◌≤◌};
 ghost use Rattle.model.specs.Marks.{mark};
 ghost use Rattle.ways.specs.Way.{highest};

@@ -1,6 +1,7 @@
 // What one arrow, or one loop, does to the numbers: the arrow raises the number of its start and is then its hint; the
 // loop raises a number to the cap. What is promised is about values; hints and marks may be anything.
 #![tactic(auto)]
+
 ghost use Rattle.std.specs.Prelude.{◌≡◌, Bool, false, ℕ, ◌<◌};
 ghost use Rattle.chart.specs.Bytes.{arrow_count};
 ghost use Rattle.hints.specs.Values.{values};
@@ -69,6 +70,7 @@ pub fn renew(way: Way, chart: &[u8], n: usize, m: usize, i: usize, numbers: &mut
 }
 
 // The number of state r goes to the cap, if the hints lead round from there, by so many arrows at most, and time passes.
+#[tactic(auto, using(crate::proofs::Went::went_none))]
 fn leap_up(
     climb: Climb,
     chart: &[u8],

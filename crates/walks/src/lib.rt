@@ -1,6 +1,7 @@
 // Walks along the hints: numbers rise by passes in the order of states, and by walks from state to state and back. A row is
 // lent for the states of a walk; it may have any length, and a walk ends where it does.
 #![tactic(auto)]
+
 ghost use Rattle.std.specs.Prelude.{◌≡◌, true, ◌≤◌, ◌<◌, length};
 ghost use Rattle.chart.specs.Shape.{Passed};
 ghost use Rattle.visits.specs.Moves.{Given, Goes};

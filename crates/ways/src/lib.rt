@@ -1,6 +1,7 @@
 // The two ways of numbers, what an arrow offers on each, and what a number becomes by it. Minutes that fall are kept as
 // what they leave to the top, so that numbers rise on either way.
 #![tactic(auto)]
+
 ghost use Rattle.std.specs.Prelude.{◌≡◌, false, ◌-◌, ◌<◌, min};
 ghost use Rattle.chart.specs.Shape.{InRange, Slot};
 ghost use Rattle.hints.specs.Values.{radix, sided};

@@ -5,6 +5,9 @@ ghost use Rattle.why_call.specs.Why.{Reports};
 
 use arguments::Argument;
 use desk_call::Reported;
+use std::env::Env;
+use std::io;
+use std::io::Print;
 
 // Marks and scratch for 256 states and 64 nodes, and room for the longest run.
 const MARKS: usize = 16384;
@@ -41,11 +44,11 @@ fn report_why(chart: &[u8], rule: &[u8], node: usize, state: usize, out: &mut [u
 }
 
 // Reads desk.cht and desk.rul as the desk program does, prints the report, and tells a refusal.
-fn print_why(node: usize, state: usize) {
+fn print_why(rt: &HostRuntime, node: usize, state: usize) -> io::Result<()> {
     let mut chart = [0; desk_call::CHART];
     let mut rule = [0; desk_call::RULE];
-    let chart_size = desk_call::read(b"desk.cht", &mut chart);
-    let rule_size = desk_call::read(b"desk.rul", &mut rule);
+    let chart_size = desk_call::read(rt, b"desk.cht", &mut chart);
+    let rule_size = desk_call::read(rt, b"desk.rul", &mut rule);
     let mut text = [0; TEXT];
     let reported = report_why(
         &chart[..chart_size],
@@ -55,38 +58,37 @@ fn print_why(node: usize, state: usize) {
         &mut text,
     );
     let printed = reported.printed;
-    io::write_all(libc::STDOUT_FILENO, &text[..printed]);
+    rt.stdout().write_all(&text[..printed])?;
     let outcome = reported.outcome;
-    telling::tell(b"desk_why", outcome);
+    telling::tell(&rt.stderr(), b"desk_why", outcome)
 }
 
-fn print_usage() {
-    io::write_all(
-        libc::STDERR_FILENO,
+fn print_usage(rt: &HostRuntime) -> io::Result<()> {
+    rt.stderr().write_all(
         b"usage: desk_why NODE STATE\nIt reads desk.cht and desk.rul here, and takes both numbers in decimal.\n",
-    );
+    )
 }
 
 // Argument i as a number. One that is missing counts as empty.
-fn read_argument(i: usize) -> Argument {
+fn read_argument(rt: &HostRuntime, i: usize) -> Argument {
     let mut text = [0; ARGUMENT];
-    let size = os::arg(i, &mut text);
-    arguments::decimal_value(&text[..size])
+    match rt.arg(i, &mut text) {
+        Ok(size) => arguments::decimal_value(&text[..size]),
+        Err(_) => arguments::decimal_value(b""),
+    }
 }
 
 // Two arguments, the program's own name before them.
-pub fn run() {
-    if os::arg_count() != 3 {
-        print_usage();
-        return;
+pub fn run(rt: &HostRuntime) -> io::Result<()> {
+    if !telling::has_arguments(rt, 3) {
+        return print_usage(rt);
     }
-    let node = read_argument(1);
-    let state = read_argument(2);
+    let node = read_argument(rt, 1);
+    let state = read_argument(rt, 2);
     if let Argument::Number(t) = node {
         if let Argument::Number(s) = state {
-            print_why(t, s);
-            return;
+            return print_why(rt, t, s);
         }
     }
-    print_usage();
+    print_usage(rt)
 }

@@ -40,7 +40,7 @@ impl Programs {
         let find = |name: &&str| {
             let path = whole.join(name);
             let there = path.is_file();
-            there.then_some(path).ok_or(format!("there is no program {folder}/{name}: run rt check first"))
+            there.then_some(path).ok_or(format!("there is no program {folder}/{name}: run tools/build first"))
         };
         let pairs = PairPrograms { paths: PROGRAMS.iter().map(find).collect::<Result<_, _>>()?, why: find(&WHY)? };
         let typed = TypedPrograms { rule: find(&RULE)?, text: find(&TEXT)? };

@@ -1,0 +1,12 @@
+use Prim.Native.Nat.{◌-◌}
+use Rattle.run_walk.proofs.Led.{Led}
+use Rattle.exact_walk.proofs.Next.{serves_at}
+use Rattle.exact_walk.proofs.next_arrow.Given as goal
+
+-- Invariant: the links lead to i, an arrow from s or none, and no arrow below it serves.
+abbrev pub invariant-loop-i : goal.invariant-loop-i
+invariant-loop-i l =
+    Led l.chart l.s (serves_at l.chart l.n l.table l.left l.minutes l.s) l.m l.i
+
+abbrev pub decreases-loop-i : goal.decreases-loop-i
+decreases-loop-i l = l.m - l.i

@@ -1,0 +1,23 @@
+-- "=", the number, and the space.
+use mathlib.Core.Path.{◌≡◌, refl, ap, ◌∙◌}
+use Prim.Native.Nat.{ℕ, ◌+◌, ◌*◌}
+use native.Mathlib.Omega.{arith}
+use Rattle.tctl.specs.Kind.{Runs, some_run, all_runs}
+use Rattle.rule_grammar.specs.Machine.{Sign, until}
+use Rattle.rule_bytes.proofs.Bounds.{kind_same}
+use Rattle.rule_tokens.specs.Tags.{until_tag, join_tag}
+use Rattle.rule_numbers.proofs.Further.{number_ends}
+use Rattle.rule_tokens.proofs.equal_from.Goals as goal
+
+-- the tag of an until does not depend on c
+until_tag_same : (q : Runs) (s : Sign) (c : ℕ) → until_tag q s ≡ join_tag (until q s c)
+until_tag_same some_run s c = ap (λ k. 8 * 5 + k) (kind_same s c)
+until_tag_same all_runs s c = ap (λ k. 8 * 6 + k) (kind_same s c)
+
+pub space_from-requires : goal.space_from-requires
+space_from-requires c =
+    let of = c.requires.1 in
+    let v = c.number_from-number.result.value in (
+      rw c.number_from-number.ensures (number_ends _ _ _ (omega (arith, c.stands.ensures.1 c.if-stands.true))),
+      record { join = until of.runs of.sign v; same = of.same ∙ until_tag_same of.runs of.sign v; same_number = refl },
+    )

@@ -1,0 +1,6 @@
+-- The weights lie in an array for the most arrows that a chart has.
+use Rattle.chart.proofs.Reading.{shaped}
+use Rattle.step_table.proofs.fewest_steps.Goals as goal
+
+pub fill_weights-requires : goal.fill_weights-requires
+fill_weights-requires c = let p = c.requires.passed in (p, (shaped p).few_arrows)
