@@ -1,5 +1,6 @@
 // The call check.
 #![tactic(auto)]
+
 ghost use Rattle.call_check.specs.Check.{Checked};
 
 use outcome::Outcome;

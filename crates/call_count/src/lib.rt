@@ -1,5 +1,6 @@
 // The call count: the marks of check, found minute by minute.
 #![tactic(auto)]
+
 ghost use Rattle.call_count.specs.Count.{Counted};
 
 use outcome::Outcome;

@@ -1,5 +1,6 @@
 // The call kind of rule.
 #![tactic(auto)]
+
 ghost use Rattle.std.specs.Prelude.{◌≡◌, ◌<◌};
 ghost use Rattle.tctl.specs.Kind.{all_runs, some_run, is_of};
 ghost use Rattle.rule.specs.Bytes.{node_count};

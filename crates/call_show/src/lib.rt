@@ -1,5 +1,6 @@
 // The call show: why a state is marked, or is not.
 #![tactic(auto)]
+
 ghost use Rattle.call_show.specs.Show.{Showed};
 
 use outcome::Written;

@@ -1,5 +1,6 @@
 // The call that writes a rule back as text.
 #![tactic(auto)]
+
 ghost use Rattle.call_write_rule.specs.Write.{Wrote};
 
 use outcome::Written;

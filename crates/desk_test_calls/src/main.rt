@@ -1,6 +1,7 @@
 // The calls that only Rattle code can make, run and printed: a row as a part of a table, and a chart reader that is
 // lent to `next`. What is printed is compared with what the separately written program prints.
 #![tactic(auto)]
+
 ghost use Rattle.std.specs.Prelude.{◌≡◌};
 ghost use Rattle.desk_test_calls.specs.Turned.{turned};
 

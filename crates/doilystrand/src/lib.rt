@@ -1,6 +1,7 @@
 // The open calls for C and Rust, with the promises that they have themselves. What C has no form for crosses as
 // numbers (`coded`), and of a row its place instead of the part itself.
 #![tactic(auto)]
+
 ghost use Rattle.std.specs.Prelude.{◌≡◌};
 ghost use Rattle.call_row.specs.Row.{place_of};
 ghost use Rattle.call_map.specs.Refusals.{map_refusal};

@@ -1,5 +1,6 @@
 // A chart and a rule judged: the table of refusals, then every node settled, by the first engine or minute by minute.
 #![tactic(auto)]
+
 ghost use Rattle.std.specs.Prelude.{◌≡◌, [], ◌∷◌, ◌≤◌, length};
 ghost use Rattle.outcome.specs.Refusal.{first};
 ghost use Rattle.chart.specs.Shape.{Passed};

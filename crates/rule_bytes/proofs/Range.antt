@@ -10,7 +10,7 @@ use Rattle.base.proofs.Truth.{cond_elim}
 use Rattle.rule_grammar.specs.Grammar.{InRange, BoundInRange}
 use Rattle.rule.specs.Bytes.{node_count, node_words}
 use Rattle.rule.specs.Form.{form_of}
-use Rattle.rule.specs.Formula.{bound_of, operation, formula_by, formula_of}
+use Rattle.rule.specs.Formula.{bound_of, formula_by, formula_of}
 use Rattle.rule.specs.Refusals.{rule_refusal}
 use Rattle.rule.proofs.Accepted.{AcceptedRule, accepted, bound_known, known, label_low, lower_a, lower_b}
 

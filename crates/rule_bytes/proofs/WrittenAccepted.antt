@@ -13,7 +13,7 @@ use Rattle.base.specs.Sum
 use Rattle.outcome.specs.Refusal.{success, first}
 use Rattle.outcome.proofs.Lowest.{lowest_none}
 use Rattle.tctl.specs.Kind.{Runs, some_run, all_runs}
-use Rattle.tctl.specs.Formula.{Formula, not}
+use Rattle.tctl.specs.Formula.{Formula}
 use Rattle.rule_grammar.specs.Machine.{Sign, less, more, equal, most_of, Join, conj, disj, until}
 use Rattle.rule_grammar.specs.Grammar.{InRange}
 use Rattle.rule_grammar.specs.Machine.{join}

@@ -1,5 +1,6 @@
 // A rule written back as text, node by node down its tree, into a lent buffer.
 #![tactic(auto)]
+
 ghost use Rattle.std.specs.Prelude.{◌≡◌, cond, ◌<◌};
 ghost use Rattle.append.specs.Piece.{Room, Appended};
 ghost use Rattle.rule.specs.Bytes.{node_count};

@@ -1,6 +1,7 @@
 // Settling a node of a rule's tree: its operands first, whose numbers are lower, then its own row of marks; untils by the
 // first engine, or minute by minute.
 #![tactic(auto)]
+
 ghost use Rattle.rule.specs.Refusals.{minutely};
 ghost use Rattle.nodes.specs.Right.{Workable, AcceptedNode};
 ghost use Rattle.settle.specs.Settled.{Settled};

@@ -1,5 +1,6 @@
 // The program desk_text: a rule's file in, its text out.
 #![tactic(auto)]
+
 ghost use Rattle.std.specs.Prelude.{◌≤◌, length};
 ghost use Rattle.text_call.specs.Printed.{Reports};
 
@@ -31,8 +32,9 @@ fn report_text(rule: &[u8], out: &mut [u8]) -> Reported
 }
 
 fn print_usage(rt: &HostRuntime) -> io::Result<()> {
-    rt.stderr()
-        .write_all(b"usage: desk_text\nIt reads desk.rul here, and prints the rule's text.\n")
+    rt.stderr().write_all(
+        b"usage: desk_text\nIt reads desk.rul here, and prints the rule's text.\n",
+    )
 }
 
 // Reads desk.rul as the desk program does, prints the line, and tells a refusal. There is no argument but the program's

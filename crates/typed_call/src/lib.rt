@@ -1,13 +1,13 @@
 // The program desk_rule: a text in; desk.rul out, or what is wrong with the text.
 #![tactic(auto)]
+
 ghost use Rattle.std.specs.Prelude.{◌≡◌, ◌+◌, ◌≤◌, length};
 ghost use Rattle.io.specs.Counts.{IsPrefixLen};
 ghost use Rattle.typed_call.specs.Answer.{input_read, rule_room, typed, Typing};
 
 use outcome::Outcome;
-use std::fs;
-use std::io;
 use std::io::{Print, Write};
+use std::{fs, io};
 
 // How many bytes of standard input are read: one more than the longest text and its newline have.
 const INPUT: usize = 4098;

@@ -1,5 +1,6 @@
 // E(a until b), at most c or at least c, which one run of the engine settles.
 #![tactic(auto)]
+
 ghost use Rattle.std.specs.Prelude.{◌<◌};
 ghost use Rattle.tctl.specs.Formula.{at_most, at_least};
 ghost use Rattle.until_start.specs.Lent.{Lent};

@@ -1,5 +1,6 @@
 // A(a until b, at least c), c above 0, which two runs of the engine settle.
 #![tactic(auto)]
+
 ghost use Rattle.std.specs.Prelude.{◌<◌};
 ghost use Rattle.tctl.specs.Formula.{at_least};
 ghost use Rattle.model.specs.Marks.{mark};

@@ -1,5 +1,6 @@
 // The program desk_why: two numbers and two files in, one text out.
 #![tactic(auto)]
+
 ghost use Rattle.std.specs.Prelude.{◌*◌, ◌≤◌, length};
 ghost use Rattle.why_call.specs.Why.{Reports};
 
