@@ -1,11 +1,6 @@
-use mathlib.Core.Path.{◌≡◌, sym, ap, ◌∙◌}
-use mathlib.Core.List.{List, [], ◌∷◌, ◌++◌}
-use Prim.Native.Nat.{ℕ, suc, ◌+◌, ◌-◌, ◌≤◌, ◌<◌}
-use native.Mathlib.Omega.{arith}
-use lib.ListN.{length, get_or, take, length-take}
-use lib.Seq.{take-suc, take-length}
+use Prim.Native.Nat.{◌-◌, ◌≤◌}
+use lib.ListN.{length, take}
 use Rattle.append.specs.Piece.{Appended}
-use Rattle.append.proofs.Append.{appended_none, appended_both, appended_size, appended_text, room_second}
 use Rattle.append.proofs.put_word.Given as goal
 
 -- Invariant: the first i bytes of the word are there.

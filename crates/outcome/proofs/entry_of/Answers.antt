@@ -1,13 +1,11 @@
 -- The numbers between one test and the next carry one entry.
 use mathlib.Core.Path.{refl}
 use native.Mathlib.Omega.{arith}
-use borrow.Author.Rules.{rules}
 use Rattle.outcome.specs.Entry.{entry_of}
 use Rattle.outcome.specs.Refusal.{lowest}
 use Rattle.outcome.proofs.Agree.{agree}
 use Rattle.outcome.proofs.entry_of.Goals as goal
 
--- The numbers between one test and the next carry one entry.
 pub returns-then-number-lt1 : goal.returns-then-number-lt1
 unfolding lowest entry_of
 returns-then-number-lt1 c = agree (λ n. 0) entry_of 0 1 refl (omega arith) c.if-number-lt1.true
@@ -34,4 +32,4 @@ returns-then-number-lt23 c = agree (λ n. 4) entry_of 20 3 refl c.if-number-lt20
 
 pub returns-then-number-lt24 : goal.returns-then-number-lt24
 unfolding lowest entry_of
-returns-then-number-lt24 c = agree (λ n. 1) entry_of 23 1 refl c.if-number-lt23.false c.if-number-lt24.true
+returns-then-number-lt24 c = agree (λ n. 1) entry_of 23 1 refl (omega arith) c.if-number-lt24.true

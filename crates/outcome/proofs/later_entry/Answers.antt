@@ -1,13 +1,11 @@
 -- The numbers between one test and the next carry one entry.
 use mathlib.Core.Path.{refl}
-use native.Mathlib.Omega.{arith}
 use Rattle.outcome.specs.Entry.{entry_of}
 use Rattle.outcome.specs.Refusal.{lowest}
 use Rattle.outcome.proofs.Agree.{agree}
 use Rattle.outcome.proofs.Carried.{late_carries}
 use Rattle.outcome.proofs.later_entry.Goals as goal
 
--- The numbers between one test and the next carry one entry.
 pub returns-then-number-lt60 : goal.returns-then-number-lt60
 unfolding lowest entry_of
 returns-then-number-lt60 c = agree (λ n. 0) entry_of 24 36 refl c.requires c.if-number-lt60.true
