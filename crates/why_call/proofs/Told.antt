@@ -10,7 +10,7 @@ use Rattle.outcome.specs.declared.Outcome.{Outcome}
 use Rattle.outcome.specs.declared.Written.{Written}
 use Rattle.append.specs.Piece.{AtFront}
 use Rattle.tctl.specs.Chart.{Chart}
-use Rattle.tctl.specs.Formula.{Formula, always, label, not, and, or, some_until, all_until, at_most, at_least}
+use Rattle.tctl.specs.Formula.{Formula, always, label, not, and, or, some_until, all_until, at_most, at_least, exactly}
 use Rattle.chart.specs.Bytes.{chart_of}
 use Rattle.rule.specs.Bytes.{node_words}
 use Rattle.rule.specs.Formula.{formula_at}
@@ -34,6 +34,7 @@ reason_some G (or f g) s shown h = absurd h
 reason_some G (some_until b f g) s shown h = omega (arith, h.shows.count)
 reason_some G (all_until (at_most c) f g) s shown h = omega (arith, h.shows.count)
 reason_some G (all_until (at_least c) f g) s shown h = absurd h
+reason_some G (all_until (exactly c) f g) s shown h = absurd h
 
 module _ {chart rule : List ℕ} {node state : ℕ} {answer : Written} {marks scratch run : List ℕ}
     (s : Showed chart rule lent_marks lent_table node state lent_run answer marks scratch run) where
