@@ -16,7 +16,8 @@ import sys
 TABLE = os.path.join(os.path.dirname(os.path.realpath(__file__)), "snake_names.txt")
 SIGNATURE = re.compile(r"^\s*(?:(?:pub|abbrev|unfoldable|pattern) )*([^\s(){}\[\].,;:]+)((?: [^\s(){}\[\].,;:=]+)*)(?: \{[^}]*\})? :(?: |$)")
 # where the plain spelling is another name's already
-CHOSEN = {"aboveZero": "is_above_zero", "metBy": "met_by", "openingOf": "opening_of", "rowNext": "row_next", "shownBy": "is_shown_by"}
+CHOSEN = {"aboveZero": "is_above_zero", "metBy": "met_by", "openingOf": "opening_of", "rowNext": "row_next", "shownBy": "is_shown_by",
+          "chart-read": "chart_count", "rule-read": "rule_count", "rule-room": "rule_room"}
 PLAIN = re.compile(r"^[a-z][\w'-]*$")
 TOKEN = re.compile(r"[A-Za-z_][\w'-]*")
 

@@ -15,9 +15,9 @@ rule_read = 520
 -- room for just that, and how many bytes of it were read
 pub record Files (chart : List ℕ) (chartSize : ℕ) (rule : List ℕ) (ruleSize : ℕ) : Type 0 where
   pub chart_room : length chart ≡ chart_read
-  pub rule_room_lem : length rule ≡ rule_read
-  pub chart_read_lem : IsPrefixLen chartSize chart
-  pub rule_read_lem : IsPrefixLen ruleSize rule
+  pub rule_room : length rule ≡ rule_read
+  pub chart_count : IsPrefixLen chartSize chart
+  pub rule_count : IsPrefixLen ruleSize rule
 
 -- "each one more than the longest accepted": what is accepted is shorter, so of a longer file it shows that it is. That
 -- a chart and a rule of one byte less are accepted is shown by the files of tests/files/large, which the program lists.
