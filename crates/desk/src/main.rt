@@ -1,8 +1,6 @@
 // The desk program; its test runs it on the chart Short.
 #![tactic(auto)]
 
-use std::io;
-
-fn main(rt: HostRuntime) -> io::Result<()> {
-    desk_call::run(&rt)
+fn main(rt: HostRuntime) {
+    desk_call::run(&rt);
 }

@@ -8,8 +8,6 @@ ghost use Rattle.desk_call.specs.Printed.{Reports};
 
 use outcome::Outcome;
 use std::fs::File;
-use std::io;
-use std::io::{Print, Read};
 
 // How many bytes are read of a chart's file and of a rule's.
 pub const CHART: usize = 16906;
@@ -24,21 +22,6 @@ const SCRATCH: usize = 65536;
 // The bytes of the longest text: 64 lines of 260 after a first line of 20.
 const TEXT: usize = 16660;
 
-// Reads until there is no room, the input ends or a read fails, and answers how many bytes came.
-pub fn read_full<R: Read>(from: &mut R, space: &mut [u8]) -> usize
-    ensures { IsPrefixLen result space.new }
-{
-    let mut done = 0;
-    while done < space.len() {
-        match from.read(&mut space[done..]) {
-            Ok(0) => break,
-            Ok(n) => done += n,
-            Err(_) => break,
-        }
-    }
-    done
-}
-
 // The first bytes of a file, as many as there is room for. One that can't be opened counts as empty.
 pub fn read(rt: &HostRuntime, name: &[u8], space: &mut [u8]) -> usize
     ensures { IsPrefixLen result space.new }
@@ -47,7 +30,7 @@ pub fn read(rt: &HostRuntime, name: &[u8], space: &mut [u8]) -> usize
         return 0;
     };
     match File::open(rt, name) {
-        Ok(mut file) => read_full(&mut file, space),
+        Ok(mut file) => telling::read_full(&mut file, space),
         Err(_) => 0,
     }
 }
@@ -88,7 +71,7 @@ fn report_files(chart: &[u8], i: usize, rule: &[u8], j: usize, out: &mut [u8]) -
 
 // Reads desk.cht and desk.rul, prints the report, and tells a refusal. A file longer than any accepted is read for one
 // byte more than the longest, and so refused.
-pub fn run(rt: &HostRuntime) -> io::Result<()> {
+pub fn run(rt: &HostRuntime) {
     let mut chart = [0; CHART];
     let mut rule = [0; RULE];
     let chart_size = read(rt, b"desk.cht", &mut chart);
@@ -96,7 +79,7 @@ pub fn run(rt: &HostRuntime) -> io::Result<()> {
     let mut text = [0; TEXT];
     let reported = report_files(&chart, chart_size, &rule, rule_size, &mut text);
     let printed = reported.printed;
-    rt.stdout().write_all(&text[..printed])?;
+    telling::print(&rt.stdout(), &text[..printed]);
     let outcome = reported.outcome;
-    telling::tell(&rt.stderr(), b"desk", outcome)
+    telling::tell(&rt.stderr(), b"desk", outcome);
 }

@@ -7,7 +7,6 @@ ghost use Rattle.desk_test_calls.specs.Turned.{turned};
 
 use call_reader::Handed;
 use call_row::Choice;
-use std::io;
 use std::io::Print;
 
 // What a reader hands out, and what it hands out after that.
@@ -27,21 +26,21 @@ fn turn(chart: &[u8], number: usize) -> Turned
     Turned { first, following }
 }
 
-fn print(rt: &HostRuntime, text: &[u8]) -> io::Result<()> {
-    rt.stdout().write_all(text)
+fn print(rt: &HostRuntime, text: &[u8]) {
+    telling::print(&rt.stdout(), text);
 }
 
-fn print_word(rt: &HostRuntime, word: u64) -> io::Result<()> {
-    print!(rt; " {word}")
+fn print_word(rt: &HostRuntime, word: u64) {
+    if print!(rt; " {word}").is_err() {}
 }
 
-fn print_handed(rt: &HostRuntime, handed: Handed) -> io::Result<()> {
+fn print_handed(rt: &HostRuntime, handed: Handed) {
     match handed {
         Handed::Arrow(a) => {
-            print_word(rt, a.start as u64)?;
-            print_word(rt, a.end as u64)?;
-            print_word(rt, a.fewest as u64)?;
-            print_word(rt, a.most as u64)
+            print_word(rt, a.start as u64);
+            print_word(rt, a.end as u64);
+            print_word(rt, a.fewest as u64);
+            print_word(rt, a.most as u64);
         }
         Handed::Finished => print(rt, b" finished"),
     }
@@ -55,42 +54,35 @@ fn is_finished(handed: Handed) -> bool {
 }
 
 // The line of one number; whether the reader says finished there.
-fn print_turn(rt: &HostRuntime, chart: &[u8], number: usize) -> io::Result<bool> {
+fn print_turn(rt: &HostRuntime, chart: &[u8], number: usize) -> bool {
     let t = turn(chart, number);
-    print!(rt; "{number}:")?;
+    if print!(rt; "{number}:").is_err() {}
     let first = t.first;
-    print_handed(rt, first)?;
-    print(rt, b", then")?;
+    print_handed(rt, first);
+    print(rt, b", then");
     let following = t.following;
-    print_handed(rt, following)?;
-    print(rt, b"\n")?;
-    Ok(is_finished(first))
+    print_handed(rt, following);
+    print(rt, b"\n");
+    is_finished(first)
 }
 
 // A line for each number, up to the first at which the reader says finished. No chart has more than 2,048 arrows.
-fn print_arrows(rt: &HostRuntime, chart: &[u8]) -> io::Result<()> {
+fn print_arrows(rt: &HostRuntime, chart: &[u8]) {
     for number in 0..=2048 {
-        if print_turn(rt, chart, number)? {
-            return Ok(());
+        if print_turn(rt, chart, number) {
+            return;
         }
     }
-    Ok(())
 }
 
-fn print_bytes(rt: &HostRuntime, bytes: &[u8]) -> io::Result<()> {
+fn print_bytes(rt: &HostRuntime, bytes: &[u8]) {
     for i in 0..bytes.len() {
-        print_word(rt, words::wide(bytes[i]) as u64)?;
+        print_word(rt, words::wide(bytes[i]) as u64);
     }
-    Ok(())
 }
 
 // The bytes of the row that is asked for: the choice in byte 0 (0: overview), n in bytes 1 to 2, t in 3 to 4.
-fn print_row<'a>(
-    rt: &HostRuntime,
-    overview: &'a [u8],
-    detail: &'a [u8],
-    ask: &[u8; 5],
-) -> io::Result<()> {
+fn print_row<'a>(rt: &HostRuntime, overview: &'a [u8], detail: &'a [u8], ask: &[u8; 5]) {
     let mut choice = Choice::Detail;
     if ask[0] == 0 {
         choice = Choice::Overview;
@@ -98,18 +90,18 @@ fn print_row<'a>(
     let n = words::be16(ask, 1);
     let t = words::be16(ask, 3);
     let row = call_row::row(overview, detail, choice, n as usize, t as usize);
-    print(rt, b"row")?;
-    print_bytes(rt, row)?;
-    print(rt, b"\n")
+    print(rt, b"row");
+    print_bytes(rt, row);
+    print(rt, b"\n");
 }
 
-fn main(rt: HostRuntime) -> io::Result<()> {
+fn main(rt: HostRuntime) {
     let mut chart = [0; desk_call::CHART];
     let mut rule = [0; desk_call::RULE];
     let mut ask = [0; 5];
     let chart_size = desk_call::read(&rt, b"desk.cht", &mut chart);
     let rule_size = desk_call::read(&rt, b"desk.rul", &mut rule);
     desk_call::read(&rt, b"row.ask", &mut ask);
-    print_row(&rt, &chart[..chart_size], &rule[..rule_size], &ask)?;
-    print_arrows(&rt, &chart[..chart_size])
+    print_row(&rt, &chart[..chart_size], &rule[..rule_size], &ask);
+    print_arrows(&rt, &chart[..chart_size]);
 }

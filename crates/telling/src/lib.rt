@@ -2,14 +2,14 @@
 #![tactic(auto)]
 
 ghost use Rattle.std.specs.Prelude.{◌≡◌, ◌≤◌, length};
+ghost use Rattle.io.specs.Counts.{IsPrefixLen};
 ghost use Rattle.append.specs.Piece.{Room, Appended, AtFront};
 ghost use Rattle.refusal_words.specs.Sentences.{counts_of};
 ghost use Rattle.telling.specs.Told.{counted_text, told_text, told};
 
 use outcome::Outcome;
 use std::env::{Env, FillError};
-use std::io;
-use std::io::Print;
+use std::io::{Print, Read};
 
 // The bytes of the longest line.
 const LINE: usize = 192;
@@ -61,13 +61,33 @@ fn tell_into(program: &[u8], outcome: Outcome, out: &mut [u8]) -> usize
     append::put_word(b")\n", end, out)
 }
 
+// Prints bytes. What can't be written is passed over: there is no one to be told.
+pub fn print<P: Print>(to: &P, bytes: &[u8]) {
+    if to.write_all(bytes).is_err() {}
+}
+
 // Prints that line.
-pub fn tell<P: Print>(to: &P, program: &[u8], outcome: Outcome) -> io::Result<()>
+pub fn tell<P: Print>(to: &P, program: &[u8], outcome: Outcome)
     requires { length program.now ≤ 9 }
 {
     let mut line = [0; LINE];
     let size = tell_into(program, outcome, &mut line);
-    to.write_all(&line[..size])
+    print(to, &line[..size]);
+}
+
+// Reads until there is no room, the input ends or a read fails, and answers how many bytes came.
+pub fn read_full<R: Read>(from: &mut R, space: &mut [u8]) -> usize
+    ensures { IsPrefixLen result space.new }
+{
+    let mut done = 0;
+    while done < space.len() {
+        match from.read(&mut space[done..]) {
+            Ok(0) => break,
+            Ok(n) => done += n,
+            Err(_) => break,
+        }
+    }
+    done
 }
 
 // Whether the program was started with argument i; argument 0 is its own name.

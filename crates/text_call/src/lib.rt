@@ -5,8 +5,6 @@ ghost use Rattle.std.specs.Prelude.{◌≤◌, length};
 ghost use Rattle.text_call.specs.Printed.{Reports};
 
 use desk_call::Reported;
-use std::io;
-use std::io::Print;
 
 // The bytes of the longest text, and of its line.
 const LONGEST: usize = 532;
@@ -31,24 +29,26 @@ fn report_text(rule: &[u8], out: &mut [u8]) -> Reported
     Reported { outcome, printed }
 }
 
-fn print_usage(rt: &HostRuntime) -> io::Result<()> {
-    rt.stderr().write_all(
+fn print_usage(rt: &HostRuntime) {
+    telling::print(
+        &rt.stderr(),
         b"usage: desk_text\nIt reads desk.rul here, and prints the rule's text.\n",
-    )
+    );
 }
 
 // Reads desk.rul as the desk program does, prints the line, and tells a refusal. There is no argument but the program's
 // name.
-pub fn run(rt: &HostRuntime) -> io::Result<()> {
+pub fn run(rt: &HostRuntime) {
     if !telling::has_arguments(rt, 1) {
-        return print_usage(rt);
+        print_usage(rt);
+        return;
     }
     let mut rule = [0; desk_call::RULE];
     let size = desk_call::read(rt, b"desk.rul", &mut rule);
     let mut line = [0; LINE];
     let reported = report_text(&rule[..size], &mut line);
     let printed = reported.printed;
-    rt.stdout().write_all(&line[..printed])?;
+    telling::print(&rt.stdout(), &line[..printed]);
     let outcome = reported.outcome;
-    telling::tell(&rt.stderr(), b"desk_text", outcome)
+    telling::tell(&rt.stderr(), b"desk_text", outcome);
 }

@@ -6,7 +6,8 @@ ghost use Rattle.io.specs.Counts.{IsPrefixLen};
 ghost use Rattle.typed_call.specs.Answer.{input_read, rule_room, typed, Typing};
 
 use outcome::Outcome;
-use std::io::{Print, Write};
+use std::fs::File;
+use std::io::Write;
 use std::{fs, io};
 
 // How many bytes of standard input are read: one more than the longest text and its newline have.
@@ -71,37 +72,39 @@ fn read_input(rt: &HostRuntime, space: &mut [u8]) -> usize
     ensures { IsPrefixLen result space.new }
 {
     let mut input = rt.stdin();
-    desk_call::read_full(&mut input, space)
+    telling::read_full(&mut input, space)
 }
 
 // All of the rule goes into a new file.
 fn write_new(rt: &HostRuntime, rule: &[u8]) -> io::Result<()> {
     if fs::remove_file(rt, "desk.rul.new").is_err() {}
-    let mut file = fs::create(rt, "desk.rul.new")?;
-    file.write_all(rule)
+    let mut file = File::create_new(rt, "desk.rul.new")?;
+    file.write_all(rule)?;
+    file.sync_all()
 }
 
 // The rule becomes desk.rul, which stays as it was if that fails: the new file takes its name only once it is whole.
-fn save(rt: &HostRuntime, rule: &[u8]) -> io::Result<()> {
+fn save(rt: &HostRuntime, rule: &[u8]) {
     if write_new(rt, rule).is_ok() && fs::rename(rt, "desk.rul.new", "desk.rul").is_ok() {
-        return Ok(());
+        return;
     }
     if fs::remove_file(rt, "desk.rul.new").is_err() {}
-    rt.stderr()
-        .write_all(b"desk_rule: desk.rul can't be written\n")
+    telling::print(&rt.stderr(), b"desk_rule: desk.rul can't be written\n");
 }
 
-fn print_usage(rt: &HostRuntime) -> io::Result<()> {
-    rt.stderr().write_all(
+fn print_usage(rt: &HostRuntime) {
+    telling::print(
+        &rt.stderr(),
         b"usage: desk_rule\nIt reads a rule's text from standard input and writes desk.rul here.\nOne last newline is not part of the text.\n",
-    )
+    );
 }
 
 // Reads a text, and writes desk.rul or prints and tells what is wrong with the text. There is no argument but the
 // program's name.
-pub fn run(rt: &HostRuntime) -> io::Result<()> {
+pub fn run(rt: &HostRuntime) {
     if !telling::has_arguments(rt, 1) {
-        return print_usage(rt);
+        print_usage(rt);
+        return;
     }
     let mut input = [0; INPUT];
     let mut rule = [0; RULE];
@@ -110,11 +113,10 @@ pub fn run(rt: &HostRuntime) -> io::Result<()> {
     let typed = answer(&input[..size], &mut rule, &mut text);
     let written = typed.written;
     let printed = typed.printed;
-    rt.stdout().write_all(&text[..printed])?;
+    telling::print(&rt.stdout(), &text[..printed]);
     let outcome = typed.outcome;
-    telling::tell(&rt.stderr(), b"desk_rule", outcome)?;
+    telling::tell(&rt.stderr(), b"desk_rule", outcome);
     if written != 0 {
-        return save(rt, &rule[..written]);
+        save(rt, &rule[..written]);
     }
-    Ok(())
 }

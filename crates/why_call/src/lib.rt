@@ -7,8 +7,6 @@ ghost use Rattle.why_call.specs.Why.{Reports};
 use arguments::Argument;
 use desk_call::Reported;
 use std::env::Env;
-use std::io;
-use std::io::Print;
 
 // Marks and scratch for 256 states and 64 nodes, and room for the longest run.
 const MARKS: usize = 16384;
@@ -45,7 +43,7 @@ fn report_why(chart: &[u8], rule: &[u8], node: usize, state: usize, out: &mut [u
 }
 
 // Reads desk.cht and desk.rul as the desk program does, prints the report, and tells a refusal.
-fn print_why(rt: &HostRuntime, node: usize, state: usize) -> io::Result<()> {
+fn print_why(rt: &HostRuntime, node: usize, state: usize) {
     let mut chart = [0; desk_call::CHART];
     let mut rule = [0; desk_call::RULE];
     let chart_size = desk_call::read(rt, b"desk.cht", &mut chart);
@@ -59,15 +57,16 @@ fn print_why(rt: &HostRuntime, node: usize, state: usize) -> io::Result<()> {
         &mut text,
     );
     let printed = reported.printed;
-    rt.stdout().write_all(&text[..printed])?;
+    telling::print(&rt.stdout(), &text[..printed]);
     let outcome = reported.outcome;
-    telling::tell(&rt.stderr(), b"desk_why", outcome)
+    telling::tell(&rt.stderr(), b"desk_why", outcome);
 }
 
-fn print_usage(rt: &HostRuntime) -> io::Result<()> {
-    rt.stderr().write_all(
+fn print_usage(rt: &HostRuntime) {
+    telling::print(
+        &rt.stderr(),
         b"usage: desk_why NODE STATE\nIt reads desk.cht and desk.rul here, and takes both numbers in decimal.\n",
-    )
+    );
 }
 
 // Argument i as a number. One that is missing counts as empty.
@@ -80,16 +79,18 @@ fn read_argument(rt: &HostRuntime, i: usize) -> Argument {
 }
 
 // Two arguments, the program's own name before them.
-pub fn run(rt: &HostRuntime) -> io::Result<()> {
+pub fn run(rt: &HostRuntime) {
     if !telling::has_arguments(rt, 3) {
-        return print_usage(rt);
+        print_usage(rt);
+        return;
     }
     let node = read_argument(rt, 1);
     let state = read_argument(rt, 2);
     if let Argument::Number(t) = node {
         if let Argument::Number(s) = state {
-            return print_why(rt, t, s);
+            print_why(rt, t, s);
+            return;
         }
     }
-    print_usage(rt)
+    print_usage(rt);
 }

@@ -1,6 +1,6 @@
 -- Invariant: what was read lies in the space.
 use Rattle.std.proofs.Common.{length, ◌-◌, ◌≤◌}
-use Rattle.desk_call.proofs.read_full.Given as goal
+use Rattle.telling.proofs.read_full.Given as goal
 
 abbrev pub invariant-loop-done : goal.invariant-loop-done
 invariant-loop-done g l = l.done ≤ length l.space
