@@ -1,7 +1,8 @@
 #!/usr/bin/env python3
 """Respells the repository's own definitions, lemmas and fields in snake case, after port.py.
 
-usage: snake_names.py map ROOT       writes tools/snake_names.txt from the names that ROOT declares: "old new", a line each
+usage: snake_names.py map ROOT       writes tools/snake_names.txt from the names that ROOT declares: "old new", a line each. Four
+                                     names that only the landed commit declares were added by hand
        snake_names.py apply ROOT     respells .rt, .antt and .edit files below ROOT/crates, and what stands between backticks
                                      in README.md and docs/
 
@@ -64,6 +65,8 @@ def make(root):
             new += "_lem"
         assert n in CHOSEN or (new not in taken and new not in table.values()), n
         table[n] = new
+    if not table:
+        sys.exit("nothing here is to be respelled: the table stays as it is")
     with open(TABLE, "w", encoding="utf-8") as out:
         out.writelines(f"{a} {b}\n" for a, b in sorted(table.items()))
 

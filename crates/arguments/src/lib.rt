@@ -1,8 +1,10 @@
-// The numbers among a program's arguments.
+// A program's arguments: how many there are, and the numbers among them.
 #![tactic(auto)]
 
 ghost use Rattle.std.specs.Prelude.{◌≡◌, ◌+◌, ◌-◌, ◌*◌, ◌≤◌, min};
 ghost use Rattle.arguments.specs.Argument.{out_of_range, argument_of};
+
+use std::env::{Env, FillError};
 
 // An argument of a program: a number in decimal, or another text.
 #[derive(Clone, Copy)]
@@ -43,4 +45,22 @@ pub fn decimal_value(text: &[u8]) -> Argument
         i += 1;
     }
     Argument::Number(value)
+}
+
+// Whether the program was started with argument i; argument 0 is its own name.
+fn is_given<E: Env>(env: &E, i: usize) -> bool {
+    let mut none = [0; 0];
+    match env.arg(i, &mut none) {
+        Ok(_) => true,
+        Err(FillError::TooLong) => true,
+        Err(FillError::NotPresent) => false,
+    }
+}
+
+// Whether the program was started with so many arguments, its own name among them.
+pub fn has_arguments<E: Env>(env: &E, count: usize) -> bool {
+    if count != 0 && !is_given(env, count - 1) {
+        return false;
+    }
+    !is_given(env, count)
 }

@@ -31,7 +31,7 @@ fn print(rt: &HostRuntime, text: &[u8]) {
 }
 
 fn print_word(rt: &HostRuntime, word: u64) {
-    if print!(rt; " {word}").is_err() {}
+    print!(rt; " {word}").ok();
 }
 
 fn print_handed(rt: &HostRuntime, handed: Handed) {
@@ -56,7 +56,7 @@ fn is_finished(handed: Handed) -> bool {
 // The line of one number; whether the reader says finished there.
 fn print_turn(rt: &HostRuntime, chart: &[u8], number: usize) -> bool {
     let t = turn(chart, number);
-    if print!(rt; "{number}:").is_err() {}
+    print!(rt; "{number}:").ok();
     let first = t.first;
     print_handed(rt, first);
     print(rt, b", then");

@@ -1,4 +1,5 @@
-// A refusal told on standard error, under what is printed of it.
+// What a desk program says and reads: a refusal told on standard error, under what is printed of it; bytes printed, and bytes
+// read as far as there is room.
 #![tactic(auto)]
 
 ghost use Rattle.std.specs.Prelude.{◌≡◌, ◌≤◌, length};
@@ -8,7 +9,6 @@ ghost use Rattle.refusal_words.specs.Sentences.{counts_of};
 ghost use Rattle.telling.specs.Told.{counted_text, told_text, told};
 
 use outcome::Outcome;
-use std::env::{Env, FillError};
 use std::io::{Print, Read};
 
 // The bytes of the longest line.
@@ -63,7 +63,7 @@ fn tell_into(program: &[u8], outcome: Outcome, out: &mut [u8]) -> usize
 
 // Prints bytes. What can't be written is passed over: there is no one to be told.
 pub fn print<P: Print>(to: &P, bytes: &[u8]) {
-    if to.write_all(bytes).is_err() {}
+    to.write_all(bytes).ok();
 }
 
 // Prints that line.
@@ -88,22 +88,4 @@ pub fn read_full<R: Read>(from: &mut R, space: &mut [u8]) -> usize
         }
     }
     done
-}
-
-// Whether the program was started with argument i; argument 0 is its own name.
-fn is_given<E: Env>(env: &E, i: usize) -> bool {
-    let mut none = [0; 0];
-    match env.arg(i, &mut none) {
-        Ok(_) => true,
-        Err(FillError::TooLong) => true,
-        Err(FillError::NotPresent) => false,
-    }
-}
-
-// Whether the program was started with so many arguments, its own name among them.
-pub fn has_arguments<E: Env>(env: &E, count: usize) -> bool {
-    if count != 0 && !is_given(env, count - 1) {
-        return false;
-    }
-    !is_given(env, count)
 }

@@ -39,7 +39,7 @@ fn print_usage(rt: &HostRuntime) {
 // Reads desk.rul as the desk program does, prints the line, and tells a refusal. There is no argument but the program's
 // name.
 pub fn run(rt: &HostRuntime) {
-    if !telling::has_arguments(rt, 1) {
+    if !arguments::has_arguments(rt, 1) {
         print_usage(rt);
         return;
     }

@@ -77,7 +77,7 @@ fn read_input(rt: &HostRuntime, space: &mut [u8]) -> usize
 
 // All of the rule goes into a new file.
 fn write_new(rt: &HostRuntime, rule: &[u8]) -> io::Result<()> {
-    if fs::remove_file(rt, "desk.rul.new").is_err() {}
+    fs::remove_file(rt, "desk.rul.new").ok();
     let mut file = File::create_new(rt, "desk.rul.new")?;
     file.write_all(rule)?;
     file.sync_all()
@@ -88,7 +88,7 @@ fn save(rt: &HostRuntime, rule: &[u8]) {
     if write_new(rt, rule).is_ok() && fs::rename(rt, "desk.rul.new", "desk.rul").is_ok() {
         return;
     }
-    if fs::remove_file(rt, "desk.rul.new").is_err() {}
+    fs::remove_file(rt, "desk.rul.new").ok();
     telling::print(&rt.stderr(), b"desk_rule: desk.rul can't be written\n");
 }
 
@@ -102,7 +102,7 @@ fn print_usage(rt: &HostRuntime) {
 // Reads a text, and writes desk.rul or prints and tells what is wrong with the text. There is no argument but the
 // program's name.
 pub fn run(rt: &HostRuntime) {
-    if !telling::has_arguments(rt, 1) {
+    if !arguments::has_arguments(rt, 1) {
         print_usage(rt);
         return;
     }

@@ -80,7 +80,7 @@ fn read_argument(rt: &HostRuntime, i: usize) -> Argument {
 
 // Two arguments, the program's own name before them.
 pub fn run(rt: &HostRuntime) {
-    if !telling::has_arguments(rt, 3) {
+    if !arguments::has_arguments(rt, 3) {
         print_usage(rt);
         return;
     }

@@ -1,7 +1,5 @@
 -- The text was written into a buffer that has room for it.
-use mathlib.Core.Path.{refl}
 use native.Mathlib.Omega.{arith}
-use borrow.Author.Rules.{rules}
 use Rattle.refusal_words.proofs.Sizes.{counts_short}
 use Rattle.refusal_words.proofs.Filled.{zeros_room}
 use Rattle.telling.proofs.counts_size.Goals as goal

@@ -1,11 +1,8 @@
 -- The four parts one after another.
-use mathlib.Core.Path.{refl}
 use native.Mathlib.Omega.{arith}
-use Rattle.append.proofs.Append.{appended_size}
 use Rattle.refusal_words.specs.Bytes.{bytes}
-use Rattle.refusal_words.specs.Sentences.{sentence_of, paper_of}
-use Rattle.telling.specs.Told.{counted_text, told_text}
-use Rattle.append.proofs.Four.{Rooms, rooms, appended_four}
+use Rattle.telling.specs.Told.{told_text}
+use Rattle.append.proofs.Four.{rooms, appended_four}
 use Rattle.telling.proofs.put_told.Goals as goal
 
 pub put_text-end-requires : goal.put_text-end-requires
