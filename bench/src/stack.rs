@@ -14,10 +14,9 @@ const OF_C: [&str; 2] = ["memcpy", "memset"];
 
 /// The functions that come to themselves again, and how many frames of them there are at a time, at most: they take a node's
 /// number, which falls, and a rule has so many nodes; or what is left of a number without its last digit.
-const RECURSIVE: [(&str, usize); 5] = [
+const RECURSIVE: [(&str, usize); 4] = [
     ("settle::settle", NODES),
-    ("call_kind::all_runs", NODES),
-    ("call_kind::some_run", NODES),
+    ("call_kind::is_of", NODES),
     ("rule_printer::print_node", NODES),
     ("decimal::put_number", DIGITS),
 ];
@@ -44,6 +43,9 @@ fn depths(steps: &[Step]) -> Result<Vec<Option<i64>>, String> {
         }
         open.extend(following(step, i, depth, &places)?);
     }
+    if uneven(steps, &depths) {
+        return Err("its indirect jumps are not as deep as one another".to_string());
+    }
     Ok(depths)
 }
 
@@ -61,12 +63,27 @@ fn following(step: &Step, i: usize, depth: i64, places: &BTreeMap<u64, usize>) -
     }
 }
 
-/// The first step that nothing has led to, where the function's one indirect jump may: it is as deep as that jump.
+/// The first step that nothing has led to, where the function's one indirect jump may, or one of several that go by a table of
+/// its places: it is as deep as these, if they are all as deep.
 fn jumped_to(steps: &[Step], depths: &[Option<i64>]) -> Option<(usize, i64)> {
-    let mut jumps = (0..steps.len()).filter(|&i| steps[i].does == Does::IndirectJump);
-    let (jump, None) = (jumps.next()?, jumps.next()) else { return None };
     let left = (0..steps.len()).find(|&i| depths[i].is_none() && steps[i].does != Does::Pads)?;
-    Some((left, depths[jump]?))
+    let mut deep = jumps(steps).filter_map(|i| depths[i]).collect::<BTreeSet<_>>().into_iter();
+    let (depth, None) = (deep.next()?, deep.next()) else { return None };
+    (jumps(steps).count() == 1 || jumps(steps).all(|i| by_table(steps, i))).then_some((left, depth))
+}
+
+fn jumps(steps: &[Step]) -> impl Iterator<Item = usize> + '_ {
+    (0..steps.len()).filter(|&i| steps[i].does == Does::IndirectJump)
+}
+
+/// The place that is jumped to is read from a table, and counts from the table's own.
+fn by_table(steps: &[Step], jump: usize) -> bool {
+    jump >= 2 && steps[jump - 1].text.starts_with("add ") && steps[jump - 2].text.starts_with("movslq (")
+}
+
+/// Indirect jumps are not as deep as one another: what each leads to can't be told apart.
+fn uneven(steps: &[Step], depths: &[Option<i64>]) -> bool {
+    jumps(steps).map(|i| depths[i]).collect::<BTreeSet<_>>().len() > 1
 }
 
 /// The bytes that a function takes by itself, and the functions that it calls, each with the depth of the call.
@@ -289,6 +306,11 @@ mod tests {
         assert_eq!(told(idle, "f"), Err("f: nothing leads to 1".to_string()));
         let twice = "0 <f>:\n 0:\tje     3 <f+0x3>\n 1:\tjmp    *%rax\n 3:\tjmp    *%rax\n 5:\tret\n";
         assert_eq!(told(twice, "f"), Err("f: nothing leads to 5".to_string()));
+        let tables = "0 <f>:\n 0:\tje     9 <f+0x9>\n 2:\tmovslq (%rdi,%rsi,4),%rsi\n 4:\tadd    %rdi,%rsi\n 6:\tjmp    *%rsi\n \
+                      9:\tmovslq (%rdi,%rsi,4),%rsi\n b:\tadd    %rdi,%rsi\n d:\tjmp    *%rsi\n f:\tret\n";
+        assert_eq!(told(tables, "f"), Ok("8: f 8".to_string()));
+        let deeper = tables.replace(" 2:\tmovslq", " 1:\tpush   %rbx\n 2:\tmovslq");
+        assert_eq!(told(&deeper, "f"), Err("f: its indirect jumps are not as deep as one another".to_string()));
         let strange = "0 <f>:\n 0:\tcall   9 <strange>\n 5:\tret\n";
         assert_eq!(told(strange, "f"), Err("f: it calls strange, which is not there".to_string()));
     }

@@ -18,12 +18,8 @@ pub fn put_word(word: &[u8], at: usize, out: &mut [u8]) -> usize
     requires { Room at word.now out.old }
     ensures { Appended at word.now result out.old out.new }
 {
-    let mut end = at;
-    let mut i = 0;
-    while i < word.len() {
-        end = put(word[i], end, out);
-        i += 1;
-    }
+    let end = at + word.len();
+    out[at..end].copy_from_slice(word);
     end
 }
 
@@ -32,8 +28,7 @@ pub fn put_be16(x: u32, at: usize, out: &mut [u8]) -> usize
     requires { (x < 65536) × Room at (word_bytes x) out.old }
     ensures { Appended at (word_bytes x) result out.old out.new }
 {
-    let end = put((x / 256) as u8, at, out);
-    put((x % 256) as u8, end, out)
+    put_word(&(x as u16).to_be_bytes(), at, out)
 }
 
 // A number of four bytes.
@@ -41,6 +36,5 @@ pub fn put_be32(x: u32, at: usize, out: &mut [u8]) -> usize
     requires { Room at (long_bytes x) out.old }
     ensures { Appended at (long_bytes x) result out.old out.new }
 {
-    let end = put_be16(x / 65536, at, out);
-    put_be16(x % 65536, end, out)
+    put_word(&x.to_be_bytes(), at, out)
 }

@@ -8,11 +8,11 @@ use native.Mathlib.Omega.{arith}
 use lib.ListN.{length, get_or, drop}
 use lib.Seq.{drop-cons, drop-length}
 use lib.Dec.{ltb}
-use borrow.Author.Tests.{ltb-true, ltb-false, eq-eqb, ne_eqb}
+use borrow.Author.Tests.{ltb-true, ltb-false}
 use Rattle.base.specs.Every.{every}
 use Rattle.decimal.specs.Value.{is_digit, read_as}
-use Rattle.arguments.specs.declared.Argument.TheVariants.{Number, Other}
-use Rattle.arguments.specs.Argument.{out_of_range, number_from, argument_of}
+use Rattle.std.specs.Prelude.{Some, None}
+use Rattle.arguments.specs.Argument.{out_of_range, number_from}
 
 -- more digits make no smaller number
 grows : (high : ℕ) (s : List ℕ) → high ≤ read_as high s
@@ -39,14 +39,6 @@ capped high s = turn (ltb high out_of_range) refl
         rw k (stays high l ∙ sym (stays out_of_range (omega arith)))
 
 module _ (text : List ℕ) where
-  pub argument_empty : length text ≡ 0 → argument_of text ≡ Other
-  unfolding argument_of
-  argument_empty e = rw (eq-eqb (length text) 0 e)
-
-  pub argument_number : (length text ≡ 0 → ⊥) → argument_of text ≡ number_from 0 text
-  unfolding argument_of
-  argument_number h = rw (ne_eqb (length text) 0 h)
-
   module _ (value i : ℕ) where
     begins : i < length text → drop i text ≡ get_or text i 0 ∷ drop (i + 1) text
     begins h = let e : i + 1 ≡ suc i = omega arith in rw e (drop-cons text i 0 h)
@@ -60,10 +52,10 @@ module _ (text : List ℕ) where
     number_more h d e =
         rw (e, begins h, d, capped (value * 10 + (get_or text i 0 - 48)) (drop (i + 1) text))
 
-    pub number_other : i < length text → is_digit (get_or text i 0) ≡ false → number_from value (drop i text) ≡ Other
+    pub number_other : i < length text → is_digit (get_or text i 0) ≡ false → number_from value (drop i text) ≡ None
     unfolding number_from every
     number_other h d = rw (begins h, d)
 
-    pub number_done : value ≤ out_of_range → i ≡ length text → number_from value (drop i text) ≡ Number value
+    pub number_done : value ≤ out_of_range → i ≡ length text → number_from value (drop i text) ≡ Some value
     unfolding number_from every
-    number_done h e = rw (e, drop-length text) (ap Number (min-eq_left h))
+    number_done h e = rw (e, drop-length text) (ap Some (min-eq_left h))

@@ -1,4 +1,4 @@
-// Arrows of a chart that passed, their states by the low bytes.
+// A chart that passed, and its arrows, their states by the low bytes.
 #![tactic(auto)]
 
 ghost use Rattle.std.specs.Prelude.{◌≡◌, ◌+◌, ◌<◌, length};
@@ -31,10 +31,21 @@ fn low_arrow(chart: &[u8], n: usize, i: usize) -> ArrowWords
     }
 }
 
-// Arrow i of a chart that passed.
-pub fn arrow(chart: &[u8], n: usize, i: usize) -> ArrowWords
-    requires { Passed chart.now n (arrow_count chart.now) × (i < arrow_count chart.now) }
-    ensures { (result ≡ arrow_words chart.now i) × Joined n result }
-{
-    low_arrow(chart, n, i)
+// The bytes of a chart that passed, with how many states and arrows it has.
+#[derive(Clone, Copy)]
+pub struct Chart<'a> {
+    pub bytes: &'a [u8],
+    pub states: usize,
+    pub arrows: usize,
+    pub ghost passed: { Passed bytes.now states arrows },
+}
+
+impl<'a> Chart<'a> {
+    // Arrow i.
+    pub fn arrow(self, i: usize) -> ArrowWords
+        requires { i < self.arrows }
+        ensures { (result ≡ arrow_words self.entry.bytes.now i) × Joined self.entry.states result }
+    {
+        low_arrow(self.bytes, self.states, i)
+    }
 }

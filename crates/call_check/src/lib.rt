@@ -10,5 +10,5 @@ pub fn check(chart: &[u8], rule: &[u8], marks: &mut [u8], scratch: &mut [u32]) -
     ensures { Checked chart.now rule.now marks.old scratch.old
         result marks.new scratch.new }
 {
-    judge::judge(false, chart, rule, marks, scratch)
+    Outcome::from(judge::judge(false, chart, rule, marks, scratch))
 }

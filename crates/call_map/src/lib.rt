@@ -2,17 +2,18 @@
 #![tactic(auto)]
 
 ghost use Rattle.std.specs.Prelude.{◌≡◌, [], ◌∷◌, ◌+◌, ◌*◌, ◌≤◌, length};
+ghost use Rattle.outcome.specs.Answer.{answer};
 ghost use Rattle.outcome.specs.Refusal.{first};
 ghost use Rattle.chart.specs.Bytes.{arrow_count, arrow_of};
 ghost use Rattle.chart.specs.Refusals.{chart_refusal};
 ghost use Rattle.chart.specs.Shape.{Small, Passed};
 ghost use Rattle.map.specs.Bytes.{entry};
 ghost use Rattle.cover.specs.Covered.{mapped_arrow};
-ghost use Rattle.call_map.specs.Refusals.{map_table, overview_table, map_refusal};
+ghost use Rattle.call_map.specs.Refusals.{map_table, map_refusal};
 ghost use Rattle.call_map.specs.Rows.{Sized, Named, Mapping, label_row, cover_row, last_rows, mapped_rows};
 
 use chart::ArrowWords;
-use outcome::Outcome;
+use outcome::{Fault, Outcome, Refusal};
 
 // How many states and arrows a chart has.
 #[derive(Clone, Copy)]
@@ -32,20 +33,18 @@ fn sizes_of(chart: &[u8]) -> Sizes
 }
 
 // Row 22, of n detail states.
-fn label_refusal(detail: &[u8], n: usize, overview: &[u8], map: &[u8]) -> Outcome
+fn label_refusal(detail: &[u8], n: usize, overview: &[u8], map: &[u8]) -> Result<(), Refusal>
     requires { Passed detail.now n (arrow_count detail.now) × Named overview.now map.now n }
-    ensures { result ≡ first (label_row detail.now overview.now map.now ∷ []) }
+    ensures { answer result ≡ first (label_row detail.now overview.now map.now ∷ []) }
 {
-    let mut d = 0;
-    while d < n {
+    for d in 0..n {
         let own = chart::label_word(detail, d);
         let e = map::entry_at(map, d);
         if own != chart::label_word(overview, e) {
-            return outcome::refused(outcome::LABELS_DIFFER, d as u32);
+            return Err(Fault::LabelsDiffer.at(d));
         }
-        d += 1;
     }
-    outcome::accepted()
+    Ok(())
 }
 
 // The arrow a between the states that its ends stand for.
@@ -62,84 +61,79 @@ fn mapped_arrow(map: &[u8], a: ArrowWords) -> ArrowWords
 }
 
 // Row 23.
-fn cover_refusal(detail: &[u8], lower: Sizes, overview: &[u8], upper: Sizes, map: &[u8]) -> Outcome
+fn cover_refusal(
+    detail: &[u8],
+    lower: Sizes,
+    overview: &[u8],
+    upper: Sizes,
+    map: &[u8],
+) -> Result<(), Refusal>
     requires { Mapping detail.now lower overview.now upper map.now }
-    ensures { result ≡ first (cover_row detail.now overview.now map.now ∷ []) }
+    ensures { answer result ≡ first (cover_row detail.now overview.now map.now ∷ []) }
 {
-    let mut i = 0;
     let mut near = 0;
-    while i < lower.arrows {
+    for i in 0..lower.arrows {
         let a = chart::arrow_at(detail, lower.states, i);
         let want = mapped_arrow(map, a);
-        near = cover::covering_arrow(overview, upper.states, upper.arrows, near, want);
-        if upper.arrows <= near {
-            return outcome::refused(outcome::NOT_COVERED, i as u32);
+        match cover::covering_arrow(overview, upper.states, upper.arrows, near, want) {
+            Some(j) => near = j,
+            None => return Err(Fault::NotCovered.at(i)),
         }
-        i += 1;
     }
-    outcome::accepted()
+    Ok(())
 }
 
 // Rows 22 and 23.
-fn last_refusal(detail: &[u8], lower: Sizes, overview: &[u8], upper: Sizes, map: &[u8]) -> Outcome
+#[tactic(auto, unfolding(outcome::specs::Refusal::first))]
+fn last_refusal(
+    detail: &[u8],
+    lower: Sizes,
+    overview: &[u8],
+    upper: Sizes,
+    map: &[u8],
+) -> Result<(), Refusal>
     requires { Mapping detail.now lower overview.now upper map.now }
-    ensures { result ≡ first (last_rows detail.now overview.now map.now) }
+    ensures { answer result ≡ first (last_rows detail.now overview.now map.now) }
 {
-    let labels = label_refusal(detail, lower.states, overview, map);
-    if labels.number != 0 {
-        return labels;
-    }
+    label_refusal(detail, lower.states, overview, map)?;
     cover_refusal(detail, lower, overview, upper, map)
 }
 
 // Rows 21 to 23, of a map in its format.
-fn mapped_refusal(detail: &[u8], lower: Sizes, overview: &[u8], upper: Sizes, map: &[u8]) -> Outcome
+fn mapped_refusal(
+    detail: &[u8],
+    lower: Sizes,
+    overview: &[u8],
+    upper: Sizes,
+    map: &[u8],
+) -> Result<(), Refusal>
     requires { Sized detail.now lower × Sized overview.now upper × (7 + 2 * lower.states ≤ length map.now) }
-    ensures { result ≡ first (mapped_rows detail.now overview.now map.now) }
+    ensures { answer result ≡ first (mapped_rows detail.now overview.now map.now) }
 {
-    let entries = map::entry_refusal(map, lower.states, upper.states);
-    if entries.number != 0 {
-        return entries;
-    }
+    map::entry_refusal(map, lower.states, upper.states)?;
     last_refusal(detail, lower, overview, upper, map)
 }
 
 // Rows 20 to 23, of charts that pass checks 1 to 9.
-fn map_refusal(detail: &[u8], overview: &[u8], map: &[u8]) -> Outcome
+fn map_refusal(detail: &[u8], overview: &[u8], map: &[u8]) -> Result<(), Refusal>
     requires { ((chart_refusal detail.now).number ≡ 0) × ((chart_refusal overview.now).number ≡ 0) }
-    ensures { result ≡ first (map_table detail.now overview.now map.now) }
+    ensures { answer result ≡ first (map_table detail.now overview.now map.now) }
 {
     let lower = sizes_of(detail);
     let upper = sizes_of(overview);
-    let form = map::form_refusal(map, lower.states);
-    if form.number != 0 {
-        return form;
-    }
+    map::form_refusal(map, lower.states)?;
     mapped_refusal(detail, lower, overview, upper, map)
 }
 
-// The overview's rows: a chart's own, with its entry.
-fn overview_refusal(overview: &[u8]) -> Outcome
-    ensures { result ≡ first (overview_table overview.now) }
-{
-    let own = loops::accepted_refusal(overview);
-    if own.number != 0 {
-        return outcome::of_overview(own);
-    }
-    outcome::accepted()
-}
-
-// The first row of the table that is met.
+// The first row of the table that is met. The overview's are a chart's own, with its entry.
 pub fn map_check(detail: &[u8], overview: &[u8], map: &[u8]) -> Outcome
     ensures { result ≡ map_refusal detail.now overview.now map.now }
 {
-    let lower = loops::accepted_refusal(detail);
-    if lower.number != 0 {
-        return lower;
+    if let Err(own) = loops::accepted_refusal(detail) {
+        return Outcome::from(own);
     }
-    let upper = overview_refusal(overview);
-    if upper.number != 0 {
-        return upper;
+    if let Err(own) = loops::accepted_refusal(overview) {
+        return outcome::of_overview(own);
     }
-    map_refusal(detail, overview, map)
+    Outcome::from(map_refusal(detail, overview, map))
 }

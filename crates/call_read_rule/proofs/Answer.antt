@@ -1,29 +1,27 @@
 -- The answer of the call that reads a rule, by the row that is met first.
-use mathlib.Core.Path.{◌≡◌, refl, ap}
+use mathlib.Core.Path.{◌≡◌, ap}
 use mathlib.Core.List.{List, ◌++◌}
 use Prim.Native.Nat.{ℕ, ◌+◌, ◌*◌, ◌≤◌, ◌<◌}
 use native.Mathlib.Omega.{arith}
 use lib.ListN.{length, take, length-append}
 use lib.Seq.{length-take-le}
 use borrow.Author.Tests.{lt-ltb, le-ltb}
+use Rattle.std.proofs.Common.{Ok, Err}
 use Rattle.append.specs.Piece.{Room, Appended}
 use Rattle.append.proofs.Append.{appended_text, at_front, at_front_none}
 use Rattle.outcome.specs.declared.Outcome.{Outcome}
 use Rattle.outcome.specs.declared.Written.{Written}
 use Rattle.outcome.specs.Refusal.{success, first}
-use Rattle.rule_grammar.specs.Grammar.{Verdict, Judged, faulty, whole}
+use Rattle.rule_grammar.specs.Grammar.{Verdict, Judged, faulty}
 use Rattle.rule_bytes.specs.RuleBytes.{nodes, head_bytes, rule_bytes}
-use Rattle.rule_bytes.proofs.Tree.{some_nodes}
 use Rattle.rule_bytes.proofs.WrittenAccepted.{written_length}
-use Rattle.rule_parser.specs.declared.Read.{Read}
 use Rattle.rule_parser.specs.Read.{Reads, faulty as wrong, whole as right}
 use Rattle.call_read_rule.specs.Read.{read_table, refused, ReadAs}
 
 -- the place lies in the text
 pub place_inside :
-    {t : List ℕ} {v : Verdict} {read : Read} {all : List ℕ} → Judged t v → Reads t v read all → read.place ≤ length t
-place_inside (faulty x) wrong = x.place.inside
-place_inside (whole x) (right few) = omega arith
+    {t : List ℕ} {v : Verdict} {p : ℕ} {all : List ℕ} → Reads t v (Err p) all → Judged t v → p ≤ length t
+place_inside wrong (faulty x) = x.place.inside
 
 module _ (t output : List ℕ) where
   pub too_long :
@@ -34,18 +32,16 @@ module _ (t output : List ℕ) where
 
   module _ (short : length t ≤ 4096) where
     pub no_text :
-        {v : Verdict} {read : Read} {all : List ℕ} {r : Written} → Judged t v → Reads t v read all → read.count ≡ 0 →
-        r ≡ refused 64 read.place → ReadAs t output r output
+        {v : Verdict} {p : ℕ} {all : List ℕ} {r : Written} → Judged t v → Reads t v (Err p) all → r ≡ refused 64 p →
+        ReadAs t output r output
     unfolding read_table first
-    no_text {v} j wrong z e =
+    no_text {v} j wrong e =
         record { verdict = v; judged = j; outcome = rw (e, le-ltb 4096 (length t) short); front = rw e at_front_none }
-    no_text j (right {f = f} few) z e = absurd (let y : ⊥ = omega (arith, z, some_nodes f) in y)
 
     pub too_many :
-        {v : Verdict} {read : Read} {all : List ℕ} {r : Written} → Judged t v → Reads t v read all → 64 < read.count →
+        {v : Verdict} {count : ℕ} {all : List ℕ} {r : Written} → Judged t v → Reads t v (Ok count) all → 64 < count →
         r ≡ refused 65 0 → ReadAs t output r output
     unfolding read_table first
-    too_many j wrong l e = absurd (let y : ⊥ = omega (arith, l) in y)
     too_many {v} j (right {f = f} few) l e =
         record {
           verdict = v;
@@ -55,11 +51,10 @@ module _ (t output : List ℕ) where
         }
 
     pub too_short :
-        {v : Verdict} {read : Read} {all : List ℕ} {r : Written} → Judged t v → Reads t v read all → ¬ (read.count ≡ 0) →
-        read.count ≤ 64 → length output < 7 + 8 * read.count → r ≡ refused 66 0 → ReadAs t output r output
+        {v : Verdict} {count : ℕ} {all : List ℕ} {r : Written} → Judged t v → Reads t v (Ok count) all → count ≤ 64 →
+        length output < 7 + 8 * count → r ≡ refused 66 0 → ReadAs t output r output
     unfolding read_table first
-    too_short j wrong n l s e = absurd (n refl)
-    too_short {v} j (right {f = f} few) n l s e =
+    too_short {v} j (right {f = f} few) l s e =
         record {
           verdict = v;
           judged = j;
@@ -70,13 +65,12 @@ module _ (t output : List ℕ) where
 
     -- the nodes that were read are the formula's, so with the head they are its rule
     pub taken :
-        {v : Verdict} {read : Read} {all : List ℕ} {o : Outcome} {r : ℕ} {new : List ℕ} → Judged t v → Reads t v read all →
-        ¬ (read.count ≡ 0) → read.count ≤ 64 → 7 + 8 * read.count ≤ length output → o ≡ success →
-        Appended 0 (head_bytes read.count ++ take (8 * read.count) all) r output new →
+        {v : Verdict} {count : ℕ} {all : List ℕ} {o : Outcome} {r : ℕ} {new : List ℕ} → Judged t v →
+        Reads t v (Ok count) all → count ≤ 64 → 7 + 8 * count ≤ length output → o ≡ success →
+        Appended 0 (head_bytes count ++ take (8 * count) all) r output new →
         ReadAs t output (record { outcome = o; written = r }) new
     unfolding read_table first rule_bytes
-    taken j wrong n l s e h = absurd (n refl)
-    taken {v} j (right {f = f} few) n l s e h =
+    taken {v} j (right {f = f} few) l s e h =
         let same = ap (λ (b : List ℕ). head_bytes (nodes f) ++ b) (few l) in
         record {
           verdict = v;

@@ -3,13 +3,13 @@
 
 ghost use Rattle.std.specs.Prelude.{◌≡◌, ◌++◌, ◌*◌, ◌≤◌, length, take};
 ghost use Rattle.append.specs.Piece.{Room, Appended};
+ghost use Rattle.outcome.specs.Answer.{written};
 ghost use Rattle.rule_grammar.specs.Machine.{judge};
 ghost use Rattle.rule_bytes.specs.RuleBytes.{head_bytes};
 ghost use Rattle.rule_parser.specs.Read.{Reads};
-ghost use Rattle.call_read_rule.specs.Read.{ReadAs, refused as Read·refused};
+ghost use Rattle.call_read_rule.specs.Read.{ReadAs};
 
-use outcome::Written;
-use rule_parser::Read;
+use outcome::{Fault, Refusal, Written};
 
 // The longest text that is read, and the most nodes that a rule has.
 const LONGEST: usize = 4096;
@@ -19,8 +19,8 @@ const NODES: usize = 64;
 // A text of so many bytes is read with a small stack.
 const SHORT: usize = 64;
 
-// The nodes of a text; the stack has a byte for each of its bytes.
-fn read_text(text: &[u8], nodes: &mut [u8]) -> Read
+// How many nodes a text has, or its fault; the stack has a byte for each of its bytes.
+fn read_text(text: &[u8], nodes: &mut [u8]) -> Result<usize, usize>
     requires { (length text.now ≤ 4096) × (length nodes.old ≡ 512) }
     ensures { Reads text.now (judge text.now) result nodes.new }
 {
@@ -45,37 +45,30 @@ fn put_rule(k: usize, nodes: &[u8], output: &mut [u8]) -> usize
     append::put_word(&nodes[..size], headed, output)
 }
 
-fn refused(number: u32, place: u32) -> Written
-    ensures { result ≡ Read·refused number place }
+// The rule's bytes, written; how many.
+fn read(text: &[u8], output: &mut [u8]) -> Result<usize, Refusal>
+    ensures { ReadAs text.now output.old (written result) output.new }
 {
-    Written {
-        outcome: outcome::refused(number, place),
-        written: 0,
+    if LONGEST < text.len() {
+        return Err(Fault::TooMuch.at(0));
     }
+    let mut nodes = [0u8; 8 * NODES];
+    let count = match read_text(text, &mut nodes) {
+        Ok(count) => count,
+        Err(place) => return Err(Fault::NotAText.at(place)),
+    };
+    if NODES < count {
+        return Err(Fault::TooMuch.at(0));
+    }
+    if output.len() < 7 + 8 * count {
+        return Err(Fault::OutputShort.at(0));
+    }
+    Ok(put_rule(count, &nodes, output))
 }
 
 // Number and place of the first row that is met; on acceptance the rule's bytes, and how many.
 pub fn read_rule(text: &[u8], output: &mut [u8]) -> Written
     ensures { ReadAs text.now output.old result output.new }
 {
-    if LONGEST < text.len() {
-        return refused(outcome::TOO_MUCH, 0);
-    }
-    let mut nodes = [0u8; 8 * NODES];
-    let read = read_text(text, &mut nodes);
-    if read.count == 0 {
-        return refused(outcome::NOT_A_TEXT, read.place as u32);
-    }
-    if NODES < read.count {
-        return refused(outcome::TOO_MUCH, 0);
-    }
-    if output.len() < 7 + 8 * read.count {
-        return refused(outcome::OUTPUT_SHORT, 0);
-    }
-    let written = put_rule(read.count, &nodes, output);
-    let accepted = outcome::accepted();
-    Written {
-        outcome: accepted,
-        written,
-    }
+    Written::from(read(text, output))
 }

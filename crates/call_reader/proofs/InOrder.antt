@@ -1,51 +1,22 @@
 -- What a reader hands out, call by call: in order from its number the arrows of a chart that passes checks 1 to 9, then
 -- finished; over any other bytes finished at once.
-use mathlib.Core.Path.{◌≡◌, refl, sym, ap, subst, ◌∙◌}
+use mathlib.Core.Path.{◌≡◌, refl, sym, ap, ◌∙◌}
+use mathlib.Core.Logic.{inl, inr}
 use mathlib.Core.List.{List, [], ◌∷◌, map}
 use Prim.Native.Nat.{ℕ, zero, suc, ◌+◌, ◌≤◌, ◌<◌}
 use native.Mathlib.Omega.{arith}
 use lib.Dec.{eqb}
 use borrow.Author.Tests.{eq-eqb, ne_eqb}
+use Rattle.std.specs.Prelude.{Option, Some, None}
+use Rattle.std.specs.List.{slice_get}
+use Rattle.std.proofs.lemmas.Option.{slice_get_past, slice_get_read, slice_get_cases}
 use Rattle.base.proofs.Truth.{cond_elim}
 use Rattle.base.specs.Tabulate.{tabulate}
-use Rattle.base.proofs.Tabulate.{map_tabulate}
+use Rattle.base.proofs.Tabulate.{length_tabulate, get_d_tabulate, map_tabulate}
 use Rattle.chart.specs.Bytes.{arrow_count, arrow_words, arrow_of, chart_of}
 use Rattle.chart.specs.Refusals.{chart_refusal}
 use Rattle.chart.specs.declared.ArrowWords.{ArrowWords}
-use Rattle.call_reader.specs.declared.Handed.{Handed}
-use Rattle.call_reader.specs.declared.Handed.TheVariants.{Arrow, Finished}
-use Rattle.call_reader.specs.Reading.{arrows_in, entry_at, handed, number_after, answers_of, InOrder}
-
--- ── Of a list of arrows ──
-
-entry_handed : (m : ℕ) (f : ℕ → ArrowWords) (i : ℕ) → i < m → entry_at (tabulate m f) i ≡ Arrow (f i)
-unfolding tabulate entry_at
-entry_handed zero f i l = absurd (let z : ⊥ = omega arith in z)
-entry_handed (suc m) f zero l = refl
-entry_handed (suc m) f (suc i) l = entry_handed m (λ j. f (suc j)) i (omega arith)
-
-none_handed : (i : ℕ) → entry_at [] i ≡ Finished
-unfolding entry_at
-none_handed i = refl
-
-past_entries : (m : ℕ) (f : ℕ → ArrowWords) (i : ℕ) → m ≤ i → entry_at (tabulate m f) i ≡ Finished
-unfolding tabulate entry_at
-past_entries zero f i l = refl
-past_entries (suc m) f zero l = absurd (let z : ⊥ = omega arith in z)
-past_entries (suc m) f (suc i) l = past_entries m (λ j. f (suc j)) i (omega arith)
-
-abbrev IsArrow : Handed → Type 0
-IsArrow (Arrow a) = Unit {0}
-IsArrow Finished = ⊥
-
--- once finished, finished at every later number
-stays_finished : (l : List ArrowWords) (i j : ℕ) → entry_at l i ≡ Finished → entry_at l (i + j) ≡ Finished
-unfolding entry_at
-stays_finished [] i j e = refl
-stays_finished (a ∷ l) zero j e = absurd (subst IsArrow e tt)
-stays_finished (a ∷ l) (suc i) j e =
-    let k : suc i + j ≡ suc (i + j) = omega arith in
-    ap (entry_at (a ∷ l)) k ∙ stays_finished l i j e
+use Rattle.call_reader.specs.Reading.{arrows_in, handed, number_after, answers_of, InOrder}
 
 module _ (s : List ℕ) where
   passed_arrows : (chart_refusal s).number ≡ 0 → arrows_in s ≡ tabulate (arrow_count s) (arrow_words s)
@@ -60,34 +31,41 @@ module _ (s : List ℕ) where
 
   -- A reader of a chart that passes checks 1 to 9 hands out the arrow with its number, if there is one.
   -- Proof: the list of the arrows then has them all, in their order, and its entry i is arrow i.
-  pub hands_out : (chart_refusal s).number ≡ 0 → (i : ℕ) → i < arrow_count s → handed s i ≡ Arrow (arrow_words s i)
+  pub hands_out : (chart_refusal s).number ≡ 0 → (i : ℕ) → i < arrow_count s → handed s i ≡ Some (arrow_words s i)
   unfolding handed
-  hands_out e i l = rw (passed_arrows e) (entry_handed (arrow_count s) (arrow_words s) i l)
+  hands_out e i l =
+      rw (passed_arrows e)
+      (slice_get_read _ (arrow_count s) i (arrow_words s i) (sym (length_tabulate _ _)) l (sym (get_d_tabulate _ _ _ i l)))
 
   -- From the number of arrows on it says finished, whatever the bytes.
   -- Proof: the list of the arrows has no entry there, be it that of all of them or the empty one.
-  pub finished_past : (i : ℕ) → arrow_count s ≤ i → handed s i ≡ Finished
+  pub finished_past : (i : ℕ) → arrow_count s ≤ i → handed s i ≡ None
   unfolding handed arrows_in
   finished_past i l =
-      cond_elim (λ a. entry_at a i ≡ Finished) (eqb (chart_refusal s).number 0)
-      (λ e. past_entries (arrow_count s) (arrow_words s) i l) (λ e. none_handed i)
+      cond_elim (λ (a : List ArrowWords). slice_get a i ≡ None) (eqb (chart_refusal s).number 0)
+      (λ e. slice_get_past (tabulate (arrow_count s) (arrow_words s)) i (simp length_tabulate l)) (λ e. refl)
 
   -- Over bytes that don't pass checks 1 to 9 it says finished at once, at every number.
   -- Proof: the list of the arrows is empty.
-  pub finished_at_once : ((chart_refusal s).number ≡ 0 → ⊥) → (i : ℕ) → handed s i ≡ Finished
+  pub finished_at_once : ((chart_refusal s).number ≡ 0 → ⊥) → (i : ℕ) → handed s i ≡ None
   unfolding handed
-  finished_at_once h i = rw (refused_arrows h) (none_handed i)
+  finished_at_once h i = rw (refused_arrows h)
 
   -- ── One call after another ──
 
-  later_finished : (i j : ℕ) → handed s i ≡ Finished → handed s (i + j) ≡ Finished
+  -- once finished, finished at every later number
+  later_finished : (i j : ℕ) → handed s i ≡ None → handed s (i + j) ≡ None
   unfolding handed
-  later_finished i j e = stays_finished (arrows_in s) i j e
+  later_finished i j e =
+      elim (slice_get_cases (arrows_in s) i).1 [
+        | inl (x, k, f, g) ↦ cc
+        | inr (k, f) ↦ slice_get_past (arrows_in s) (i + j) (omega (arith, k))
+      ]
 
   -- the calls after the first: it moved on by one, or it stayed, and all of them say finished
-  next_handed : (i j : ℕ) (h : Handed) → handed s i ≡ h → handed s (number_after h i + j) ≡ handed s (i + suc j)
-  next_handed i j (Arrow a) e = ap (handed s) (omega arith)
-  next_handed i j Finished e = later_finished i j e ∙ sym (later_finished i (suc j) e)
+  next_handed : (i j : ℕ) (h : Option ArrowWords) → handed s i ≡ h → handed s (number_after h i + j) ≡ handed s (i + suc j)
+  next_handed i j (Some a) e = ap (handed s) (omega arith)
+  next_handed i j None e = later_finished i j e ∙ sym (later_finished i (suc j) e)
 
   -- By induction on k. The first call answers what stands at i. If that is an arrow, the others start from
   -- i + 1. If it is finished, they start from i again, and finished is all that stands at i and at later numbers.

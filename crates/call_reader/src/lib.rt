@@ -13,17 +13,10 @@ pub struct ChartReader<'a> {
     pub number: usize,
 }
 
-// What a reader hands out.
-#[derive(Clone, Copy)]
-pub enum Handed {
-    Arrow(ArrowWords),
-    Finished,
-}
-
-// What a reader hands out, and the number of the next arrow after that.
+// What a reader hands out, an arrow or none once it is finished, and the number of the next arrow after that.
 #[derive(Clone, Copy)]
 pub struct Stepped {
-    pub handed: Handed,
+    pub handed: Option<ArrowWords>,
     pub number: usize,
 }
 
@@ -31,18 +24,17 @@ pub struct Stepped {
 pub fn step(chart: &[u8], number: usize) -> Stepped
     ensures { result ≡ step_of chart.now number }
 {
-    let refusal = chart_refusals::chart_refusal(chart);
-    if refusal.number == 0 {
+    if let Ok(()) = chart_refusals::chart_refusal(chart) {
         if number < chart::arrow_count(chart) {
             let arrow = chart::arrow_at(chart, chart::state_count(chart), number);
             return Stepped {
-                handed: Handed::Arrow(arrow),
+                handed: Some(arrow),
                 number: number + 1,
             };
         }
     }
     Stepped {
-        handed: Handed::Finished,
+        handed: None,
         number,
     }
 }
@@ -55,14 +47,14 @@ pub fn new<'a>(chart: &'a [u8], number: usize) -> ChartReader<'a>
 }
 
 // What the reader hands out next; it stays where it is.
-pub fn peek<'a>(r: ChartReader<'a>) -> Handed
+pub fn peek<'a>(r: ChartReader<'a>) -> Option<ArrowWords>
     ensures { result ≡ handed r.entry.chart.now r.entry.number }
 {
     step(r.chart, r.number).handed
 }
 
-// Hands out an arrow and moves on to the next, or says finished and stays.
-pub fn next<'s, 'a>(r: &'s mut ChartReader<'a>) -> Handed
+// Hands out an arrow and moves on to the next, or is finished and stays.
+pub fn next<'s, 'a>(r: &'s mut ChartReader<'a>) -> Option<ArrowWords>
     ensures { (result ≡ handed r.old.chart.now r.old.number) ×
         (r.new ≡ moved r.old) }
 {
@@ -72,7 +64,7 @@ pub fn next<'s, 'a>(r: &'s mut ChartReader<'a>) -> Handed
 }
 
 // What a reader of these bytes at this number hands out. Its parameters are plain.
-pub fn hand_out(chart: &[u8], number: usize) -> Handed
+pub fn hand_out(chart: &[u8], number: usize) -> Option<ArrowWords>
     ensures { result ≡ handed chart.now number }
 {
     peek(new(chart, number))

@@ -9,6 +9,8 @@ use native.Mathlib.Omega.{arith}
 use lib.ListN.{length, drop, replicate, length-replicate}
 use lib.Dec.{leb, ltb}
 use borrow.Author.Tests.{eqb-true, ne_eqb, leb-false, ltb-false, not-false}
+use Rattle.std.specs.Prelude.{Option, Some, None, IfSome}
+use Rattle.std.specs.Option.{unwrap_or}
 use Rattle.base.proofs.Truth.{or_false, cond_elim, no_test}
 use Rattle.tctl.specs.Chart.{states}
 use Rattle.tctl.specs.Formula.{Formula}
@@ -267,7 +269,7 @@ module _
                 room = table_inside;
               })
 
-          module _ {r : ℕ} {newOutput : List ℕ} (ran : Ran chart (search_in m newMarks v) state r output newOutput) where
+          module _ {r : Option ℕ} {newOutput : List ℕ} (ran : Ran chart (search_in m newMarks v) state r output newOutput) where
             abbrev f : Formula
             f = formula_at rule node
 
@@ -287,15 +289,15 @@ module _
             ran_here : Ran chart (search_in n newMarks v) state r output newOutput
             ran_here = subst (λ i. Ran chart (search_in i newMarks v) state r output newOutput) en ran
 
-            front : AtFront (run_bytes run) r output newOutput
-            front = subst (λ x. AtFront (run_bytes x) r output newOutput) same ran_here.front
+            front : AtFront (run_bytes run) (unwrap_or r 0) output newOutput
+            front = subst (λ x. AtFront (run_bytes x) (unwrap_or r 0) output newOutput) same ran_here.front
 
             told : Writable run
             told =
                 run_told acc f low (length output) (omega (arith, has_states passed, chart_shape.few_states))
                 (λ i. subst (λ x. duration_at x i ≤ 65537) same (ran_here.brief i))
 
-            none_fits : (unfit (length output) (steps_of chart rule node state) ≡ true) ↔ (r ≡ 0)
+            none_fits : (unfit (length output) (steps_of chart rule node state) ≡ true) ↔ (unwrap_or r 0 ≡ 0)
             none_fits = written_iff acc f low (length output) front
 
             last : {y : Outcome} → y ≡ first fits → y ≡ show_refusal chart rule marks scratch node state output
@@ -319,27 +321,30 @@ module _
                   ap (λ l. replicate (table_size n) 0 ++ l) past
 
               pub unfit_showed :
-                  {y : Outcome} → y ≡ refusal 62 0 → r ≡ 0 →
-                  Showed chart rule marks scratch node state output (record { outcome = y; written = r }) newMarks newTable newOutput
+                  {y : Outcome} → y ≡ refusal 62 0 → r ≡ None →
+                  Showed chart rule marks scratch node state output (record { outcome = y; written = 0 }) newMarks newTable newOutput
               unfolding table_after
               unfit_showed {y} h i =
-                  let none = none_fits.1 i in
+                  let empty : unwrap_or r 0 ≡ 0 = ap (λ o. unwrap_or o 0) i in
+                  let none = none_fits.1 empty in
                   showed (last (h ∙ sym (first_met 62 _ 0 [] (ap whole none))))
                   (zeros ∙ sym (ap (λ (y : Outcome). table_after chart rule o.number y.number scratch) h))
                   run
                   (λ _. unfit_none (chart_of chart).arrows _ state (length output) (steps_of chart rule node state) none)
-                  front told
+                  (subst (λ o. AtFront (run_bytes run) (unwrap_or o 0) output newOutput) i front) told
                   (λ j. absurd (let e = ap (λ (y : Outcome). y.number) h in let b : ⊥ = omega arith in b))
 
               pub run_showed :
-                  {y : Outcome} → y ≡ success → ¬ (r ≡ 0) →
-                  Showed chart rule marks scratch node state output (record { outcome = y; written = r }) newMarks newTable newOutput
+                  {y : Outcome} → y ≡ success → {size : ℕ} → r ≡ Some size →
+                  Showed chart rule marks scratch node state output (record { outcome = y; written = size }) newMarks newTable newOutput
               unfolding table_after first
               run_showed {y} h i =
-                  let some = no_test none_fits i in
+                  let written = subst (λ o. IfSome o (λ size. 1 ≤ size)) i ran.written in
+                  let size = ap (λ o. unwrap_or o 0) i in
+                  let some = no_test none_fits (λ e. omega (arith, written, size, e)) in
                   showed (last (h ∙ sym (first_passed 62 _ [] (ap whole some))))
                   (zeros ∙ sym (ap (λ (y : Outcome). table_after chart rule o.number y.number scratch) h))
                   run
                   (λ j. absurd (j (ap (λ (y : Outcome). y.number) h)))
-                  front told
+                  (subst (λ o. AtFront (run_bytes run) (unwrap_or o 0) output newOutput) i front) told
                   (λ _. fit_shortest acc f low (length output) some)

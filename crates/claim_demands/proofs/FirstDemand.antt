@@ -8,6 +8,7 @@ use lib.ListN.{length, take, drop}
 use lib.Dec.{leb, ltb}
 use borrow.Author.Tests.{lt-ltb, le-leb, ltb-true, leb-true, ne_eqb}
 use denote.Ref.{Bor}
+use Rattle.std.specs.Prelude.{Option, None}
 use Rattle.base.proofs.Truth.{and_iff}
 use Rattle.tctl.specs.Kind.{Runs, all_runs, some_run, is_of}
 use Rattle.outcome.specs.declared.Outcome.{Outcome}
@@ -15,6 +16,7 @@ use Rattle.outcome.specs.Refusal.{success}
 use Rattle.outcome.specs.Met.{Unmet}
 use Rattle.outcome.proofs.First.{success_iff}
 use Rattle.chart.specs.Bytes.{arrow_count}
+use Rattle.chart.specs.declared.ArrowWords.{ArrowWords}
 use Rattle.chart.specs.Refusals.{chart_table, chart_refusal}
 use Rattle.rule.specs.Formula.{formula_of}
 use Rattle.rule.specs.Refusals.{rule_table, rule_refusal}
@@ -27,8 +29,6 @@ use Rattle.call_row.specs.declared.Place.{Place}
 use Rattle.call_row.specs.Row.{chosen, Part, place_of}
 use Rattle.call_row.proofs.Within.{within}
 use Rattle.call_reader.specs.declared.ChartReader.{ChartReader}
-use Rattle.call_reader.specs.declared.Handed.{Handed}
-use Rattle.call_reader.specs.declared.Handed.TheVariants.{Finished}
 use Rattle.call_reader.specs.declared.Stepped.{Stepped}
 use Rattle.call_reader.specs.Reading.{handed, step_of, moved, number_after}
 use Rattle.call_reader.proofs.InOrder.{hands_out, finished_past, finished_at_once}
@@ -108,10 +108,10 @@ row_told table part n t x =
 
 -- ── The chart reader ──
 
-hand_out_told : (s : List ℕ) (i : ℕ) (h : Handed) → h ≡ handed s i → HandedTold s i h
+hand_out_told : (s : List ℕ) (i : ℕ) (h : Option ArrowWords) → h ≡ handed s i → HandedTold s i h
 hand_out_told s i h e = record { arrow = λ ok l. e ∙ hands_out s ok i l; finished = λ w. e ∙ end w }
   where
-    end : ¬ ((chart_refusal s).number ≡ 0) ⊎ (arrow_count s ≤ i) → handed s i ≡ Finished
+    end : ¬ ((chart_refusal s).number ≡ 0) ⊎ (arrow_count s ≤ i) → handed s i ≡ None
     end (inl w) = finished_at_once s w i
     end (inr l) = finished_past s i l
 
@@ -131,7 +131,7 @@ step_told s i r e =
 
 -- a reader moves on as `step` says
 next_told :
-    (before : ChartReader) (h : Handed) (after : ChartReader) →
+    (before : ChartReader) (h : Option ArrowWords) (after : ChartReader) →
     h ≡ handed before.chart.now before.number → after ≡ moved before → NextTold before h after
 next_told before h after e m =
     record {

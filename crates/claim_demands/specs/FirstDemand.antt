@@ -2,7 +2,7 @@
 -- its promise says is said here in the papers' sentences, for whatever it was handed and all that it may answer and
 -- leave. An exported call promises what the call behind it does. The quoted sentences are of 01, those about count of
 -- 02, paper 2.
-use Rattle.std.specs.Prelude.{◌≡◌, ◌⊎◌, Bool, true, false, List, ℕ, ◌+◌, ◌*◌, ◌≤◌, ◌<◌, length, get_or, take, drop}
+use Rattle.std.specs.Prelude.{◌≡◌, ◌⊎◌, Bool, true, false, List, ℕ, ◌+◌, ◌*◌, ◌≤◌, ◌<◌, length, get_or, take, drop, Option, Some, None}
 use Rattle.std.specs.Borrow.{Bor}
 use Rattle.tctl.specs.Kind.{Runs, is_of}
 use Rattle.outcome.specs.declared.Outcome.{Outcome}
@@ -22,8 +22,6 @@ use Rattle.call_row.specs.declared.Choice.{Choice}
 use Rattle.call_row.specs.declared.Place.{Place}
 use Rattle.call_row.specs.Row.{chosen, Part, place_of}
 use Rattle.call_reader.specs.declared.ChartReader.{ChartReader}
-use Rattle.call_reader.specs.declared.Handed.{Handed}
-use Rattle.call_reader.specs.declared.Handed.TheVariants.{Arrow, Finished}
 use Rattle.call_reader.specs.declared.Stepped.{Stepped}
 use Rattle.call_reader.specs.Reading.{handed, step_of, moved}
 use Rattle.loops.specs.Accepted.{AcceptedChart}
@@ -102,22 +100,22 @@ pub record RowTold (table part : Bor (List ℕ)) (n t : ℕ) : Type 0 where
 -- ── The chart reader ──
 
 -- what a reader of these bytes at this number hands out
-pub record HandedTold (s : List ℕ) (i : ℕ) (h : Handed) : Type 0 where
+pub record HandedTold (s : List ℕ) (i : ℕ) (h : Option ArrowWords) : Type 0 where
   -- "in order from that number, the arrows of a chart that passes checks 1 to 9"
-  pub arrow : (chart_refusal s).number ≡ 0 → i < arrow_count s → h ≡ Arrow (arrow_words s i)
+  pub arrow : (chart_refusal s).number ≡ 0 → i < arrow_count s → h ≡ Some (arrow_words s i)
   -- "then says finished; over any other bytes it says finished at once"
-  pub finished : ¬ ((chart_refusal s).number ≡ 0) ⊎ (arrow_count s ≤ i) → h ≡ Finished
+  pub finished : ¬ ((chart_refusal s).number ≡ 0) ⊎ (arrow_count s ≤ i) → h ≡ None
 
 -- what is handed out at number i, and the number j after that
-pub record StepTold (s : List ℕ) (i : ℕ) (h : Handed) (j : ℕ) : Type 0 where
+pub record StepTold (s : List ℕ) (i : ℕ) (h : Option ArrowWords) (j : ℕ) : Type 0 where
   pub answer : HandedTold s i h
   -- "the number of the next arrow"
-  pub moves : (a : ArrowWords) → h ≡ Arrow a → j ≡ i + 1
+  pub moves : (a : ArrowWords) → h ≡ Some a → j ≡ i + 1
   -- once it said finished 01 leaves the number free: it stays
-  pub stays : h ≡ Finished → j ≡ i
+  pub stays : h ≡ None → j ≡ i
 
 -- a call of `next`: the reader before it, what is handed out, and the reader after it
-pub record NextTold (before : ChartReader) (h : Handed) (after : ChartReader) : Type 0 where
+pub record NextTold (before : ChartReader) (h : Option ArrowWords) (after : ChartReader) : Type 0 where
   -- it "holds the lent chart bytes"
   pub bytes : after.chart ≡ before.chart
   pub step : StepTold before.chart.now before.number h after.number
@@ -154,10 +152,10 @@ pub record FirstDemand : Type 0 where
       Part table part (place_of (length table.now) n t) → RowTold table part n t
   pub row_place : (size n t : ℕ) (p : Place) → p ≡ place_of size n t → PlaceTold size n t p
   -- `peek` and `hand_out`
-  pub hand_out : (s : List ℕ) (i : ℕ) (h : Handed) → h ≡ handed s i → HandedTold s i h
+  pub hand_out : (s : List ℕ) (i : ℕ) (h : Option ArrowWords) → h ≡ handed s i → HandedTold s i h
   pub step : (s : List ℕ) (i : ℕ) (r : Stepped) → r ≡ step_of s i → StepTold s i r.handed r.number
   pub next :
-      (before : ChartReader) (h : Handed) (after : ChartReader) →
+      (before : ChartReader) (h : Option ArrowWords) (after : ChartReader) →
       h ≡ handed before.chart.now before.number → after ≡ moved before → NextTold before h after
   -- the tables that calls share, each by itself: a chart's rows 1 to 9, those and 19, a rule's rows
   pub chart_rows : (s : List ℕ) (r : Outcome) → r ≡ chart_refusal s → Answers (chart_table s) (Unmet (chart_table s)) r

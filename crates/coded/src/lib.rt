@@ -2,10 +2,9 @@
 #![tactic(auto)]
 
 ghost use Rattle.std.specs.Prelude.{◌≡◌};
-ghost use Rattle.call_reader.specs.declared.Handed.TheVariants.{Arrow, Finished};
-ghost use Rattle.coded.specs.Coded.{code, coded_arrow};
+ghost use Rattle.coded.specs.Coded.{coded_answer, coded_arrow};
 
-use call_kind::Kind;
+use call_kind::{Kind, KindAnswer};
 use chart::ArrowWords;
 use outcome::Outcome;
 
@@ -17,15 +16,20 @@ pub struct CodedAnswer {
     pub kind: u32,
 }
 
-// The code of a kind.
-pub fn code_of(kind: Kind) -> u32
-    ensures { result ≡ code kind }
-{
-    match kind {
-        Kind::Neither => 0,
-        Kind::AllRuns => 1,
-        Kind::SomeRun => 2,
-        Kind::Both => 3,
+impl From<KindAnswer> for CodedAnswer {
+    ghost from_gives = { λ answer coded. coded ≡ coded_answer answer };
+
+    fn from(answer: KindAnswer) -> CodedAnswer {
+        let kind = match answer.kind {
+            Kind::Neither => 0,
+            Kind::AllRuns => 1,
+            Kind::SomeRun => 2,
+            Kind::Both => 3,
+        };
+        CodedAnswer {
+            outcome: answer.outcome,
+            kind,
+        }
     }
 }
 
@@ -40,26 +44,25 @@ pub struct CodedArrow {
     pub most: u32,
 }
 
-pub fn coded_words(a: ArrowWords) -> CodedArrow
-    ensures { result ≡ coded_arrow (Arrow a) }
-{
-    CodedArrow {
-        found: 1,
-        start: a.start,
-        end: a.end,
-        fewest: a.fewest,
-        most: a.most,
-    }
-}
+impl From<Option<ArrowWords>> for CodedArrow {
+    ghost from_gives = { λ handed coded. coded ≡ coded_arrow handed };
 
-pub fn coded_end() -> CodedArrow
-    ensures { result ≡ coded_arrow Finished }
-{
-    CodedArrow {
-        found: 0,
-        start: 0,
-        end: 0,
-        fewest: 0,
-        most: 0,
+    fn from(handed: Option<ArrowWords>) -> CodedArrow {
+        match handed {
+            Some(a) => CodedArrow {
+                found: 1,
+                start: a.start,
+                end: a.end,
+                fewest: a.fewest,
+                most: a.most,
+            },
+            None => CodedArrow {
+                found: 0,
+                start: 0,
+                end: 0,
+                fewest: 0,
+                most: 0,
+            },
+        }
     }
 }

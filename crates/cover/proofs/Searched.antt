@@ -1,21 +1,21 @@
 -- What comparing two states as one number says, and a search for a covering arrow.
-use mathlib.Core.Path.{◌≡◌, sym, ap, ◌∙◌}
+use mathlib.Core.Path.{◌≡◌, ap}
 use mathlib.Core.Logic.{◌↔◌}
 use mathlib.Core.Bool.{Bool, true, false, ◌&&◌}
 use mathlib.Core.List.{List}
 use Prim.Native.Nat.{ℕ, ◌+◌, ◌*◌, ◌/◌, ◌%◌, ◌≤◌, ◌<◌}
 use native.Mathlib.Decide.{dec_le}
 use native.Mathlib.Omega.{arith}
-use lib.Dec.{eqb, ltb}
-use borrow.Author.Tests.{lt-ltb, le-ltb}
+use lib.Dec.{eqb}
+use Rattle.std.specs.Prelude.{Option, Some, None}
+use Rattle.std.specs.Option.{MatchOption}
 use Rattle.base.proofs.Truth.{both_iff}
 use Rattle.base.proofs.Compare.{eqb_iff}
 use Rattle.tctl.specs.Chart.{Arrow}
 use Rattle.outcome.specs.Refusal.{found}
 use Rattle.outcome.proofs.Lowest.{lowest_none, offender_found}
-use Rattle.chart.specs.declared.ArrowWords.{ArrowWords}
 use Rattle.chart.specs.Bytes.{arrow_count, arrow_words, arrow_of}
-use Rattle.cover.specs.Search.{ends_word, CoverBetween}
+use Rattle.cover.specs.Search.{ends_word, Uncovered, CoverBetween, CoveredBy}
 use Rattle.cover.specs.Covered.{covers, covered}
 
 -- a number has one lowest byte, and one number above it
@@ -42,29 +42,25 @@ module _ (o : List ℕ) (want : Arrow) where
   abbrev test : ℕ → Bool
   test j = covers want (arrow_of (arrow_words o j))
 
-  -- arrow j, of the words b, is the one that r judges
-  pub covers_read :
-      (j : ℕ) {b : ArrowWords} {r c : Bool} → b ≡ arrow_words o j → r ≡ covers want (arrow_of b) → r ≡ c →
-      test j ≡ c
-  covers_read j e f g = sym (ap (λ w. covers want (arrow_of w)) e) ∙ sym f ∙ g
-
-  -- what a search for a covering arrow below l answers: one of them, or l where there is none
   module _ {l : ℕ} (e : l ≡ arrow_count o) where
-    pub covered_found : {j : ℕ} → j < l → test j ≡ true → (j ≤ l) × (ltb j l ≡ covered o want)
+    -- an arrow below l that covers want
+    found_below : (j : ℕ) → j < l → test j ≡ true → covered o want ≡ true
     unfolding covered
-    covered_found {j} k h =
-        let below : j < arrow_count o = omega arith in
-        (omega arith, lt-ltb j l k ∙ sym (offender_found test below h))
+    found_below j h k = let below : j < arrow_count o = omega (arith, e) in offender_found test below k
 
     -- Every arrow is one from s on, where the first search passed it, or one before s, where the second did.
-    pub covered_nowhere :
-        {s u v : ℕ} → CoverBetween o want s l u → l ≤ u → CoverBetween o want 0 s v → s ≤ v →
-        (l ≤ l) × (ltb l l ≡ covered o want)
+    found_nowhere : {s : ℕ} → Uncovered o want s l → Uncovered o want 0 s → covered o want ≡ false
     unfolding covered
-    covered_nowhere {s} after h before i =
-        let none = lowest_none test (arrow_count o) (λ j k. turn j k (dec_le s j)) in
-        (omega arith, le-ltb l l (omega arith) ∙ ap found (sym none))
+    found_nowhere {s} after before = ap found (lowest_none test (arrow_count o) (λ j k. turn j k (dec_le s j)))
       where
         turn : (j : ℕ) → j < arrow_count o → Dec (s ≤ j) → test j ≡ false
-        turn j k (yes d) = after.under j (omega arith) d
-        turn j k (no d) = before.under j (omega arith) (omega arith)
+        turn j k (yes d) = after j d (omega arith)
+        turn j k (no d) = before j (omega arith) (omega arith)
+
+    -- what a search from s on finds, or else one before s
+    pub covered_by :
+        {s : ℕ} (a r : Option ℕ) → s ≤ l → CoverBetween o want s l a →
+        MatchOption a (CoverBetween o want 0 s r) (λ j. r ≡ Some j) → CoveredBy o want l r
+    covered_by (Some j) r h p q = rw q (p.0, found_below j p.0 p.2)
+    covered_by None (Some j) h p q = (omega (arith, q.0), found_below j (omega (arith, q.0)) q.2)
+    covered_by None None h p q = found_nowhere p q

@@ -1,11 +1,11 @@
 // Which arrow of an overview chart covers an arrow of a detail chart.
 #![tactic(auto)]
 
-ghost use Rattle.std.specs.Prelude.{◌≡◌, ◌-◌, ◌≤◌, ◌<◌, ltb};
+ghost use Rattle.std.specs.Prelude.{◌≡◌, ◌≤◌, ◌<◌};
 ghost use Rattle.chart.specs.Bytes.{arrow_count, arrow_of, most_of};
 ghost use Rattle.chart.specs.Shape.{Small, Passed};
-ghost use Rattle.cover.specs.Covered.{contains, covers, covered};
-ghost use Rattle.cover.specs.Search.{ends_word, CoverBetween};
+ghost use Rattle.cover.specs.Covered.{contains, covers};
+ghost use Rattle.cover.specs.Search.{ends_word, CoverBetween, CoveredBy};
 
 use chart::ArrowWords;
 
@@ -46,46 +46,33 @@ fn covers_arrow(want: ArrowWords, b: ArrowWords) -> bool
     contains_most(b.most, want.most)
 }
 
-// The first overview arrow from lo on and before hi that covers want; hi where none does.
-fn cover_between(overview: &[u8], k: usize, lo: usize, hi: usize, want: ArrowWords) -> usize
+// The first overview arrow from lo on and before hi that covers want.
+fn cover_between(overview: &[u8], k: usize, lo: usize, hi: usize, want: ArrowWords) -> Option<usize>
     requires { let l = arrow_count overview.now in Passed overview.now k l × (lo ≤ hi) × (hi ≤ l) × Small want }
     ensures { CoverBetween overview.now (arrow_of want) lo hi result }
 {
-    let mut j = lo;
-    while j < hi {
+    for j in lo..hi {
         let b = chart::arrow_at(overview, k, j);
         if covers_arrow(want, b) {
-            return j;
+            return Some(j);
         }
-        j += 1;
     }
-    hi
+    None
 }
 
-// The number before i; 0 of 0.
-fn one_before(i: usize) -> usize
-    ensures { result ≡ i - 1 }
-{
-    if i == 0 {
-        return 0;
-    }
-    i - 1
-}
-
-// An overview arrow that covers want; l where none does. The search begins one before the arrow near, the last one's
+// An overview arrow that covers want, if one does. The search begins one before the arrow near, the last one's
 // answer, and goes round: in charts listed alike, or one against the other, it takes a step or three.
-pub fn covering_arrow(overview: &[u8], k: usize, l: usize, near: usize, want: ArrowWords) -> usize
+pub fn covering_arrow(
+    overview: &[u8],
+    k: usize,
+    l: usize,
+    near: usize,
+    want: ArrowWords,
+) -> Option<usize>
     requires { Passed overview.now k l × (near ≤ l) × Small want }
-    ensures { (result ≤ l) × (ltb result l ≡ covered overview.now (arrow_of want)) }
+    ensures { CoveredBy overview.now (arrow_of want) l result }
 {
-    let start = one_before(near);
+    let start = near.saturating_sub(1);
     let after = cover_between(overview, k, start, l, want);
-    if after < l {
-        return after;
-    }
-    let before = cover_between(overview, k, 0, start, want);
-    if before < start {
-        return before;
-    }
-    l
+    after.or_else(|| cover_between(overview, k, 0, start, want))
 }

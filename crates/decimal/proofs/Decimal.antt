@@ -13,8 +13,8 @@ use Rattle.decimal.specs.Decimal.{digits_by, decimal}
 -- more steps than there are digits change nothing: by induction on the steps, for x / 10 is below x from 10 on
 enough : (a b x : ℕ) → x < a → x < b → digits_by a x ≡ digits_by b x
 unfolding digits_by
-enough zero b x h i = absurd (let z : ⊥ = omega arith in z)
-enough (suc a) zero x h i = absurd (let z : ⊥ = omega arith in z)
+enough zero b x h i = absurd (omega arith)
+enough (suc a) zero x h i = absurd (omega arith)
 enough (suc a) (suc b) x h i =
     ap (λ (s : List ℕ). s ++ (48 + x % 10) ∷ []) (turn (λ g j. enough a b (x / 10) g j) (ltb x 10) refl)
   where

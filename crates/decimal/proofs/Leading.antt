@@ -11,12 +11,12 @@ use Rattle.decimal.specs.Decimal.{digits_by, decimal}
 
 -- a text that begins with a digit above 0 goes on beginning with it
 begins : (s t : List ℕ) → 48 < get_or s 0 0 → 48 < get_or (s ++ t) 0 0
-begins [] t h = absurd (let z : ⊥ = omega arith in z)
+begins [] t h = absurd (omega arith)
 begins (d ∷ s) t h = h
 
 begins_by : (most x : ℕ) → x < most → 0 < x → 48 < get_or (digits_by most x) 0 0
 unfolding digits_by
-begins_by zero x h p = absurd (let z : ⊥ = omega arith in z)
+begins_by zero x h p = absurd (omega arith)
 begins_by (suc most) x h p = turn (begins_by most (x / 10)) (ltb x 10) refl
   where
     turn :

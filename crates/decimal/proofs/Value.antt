@@ -15,7 +15,7 @@ value_append high (x ∷ s) d = value_append (high * 10 + (x - 48)) s d
 
 value_by : (most x : ℕ) → x < most → read_as 0 (digits_by most x) ≡ x
 unfolding digits_by
-value_by zero x h = absurd (let z : ⊥ = omega arith in z)
+value_by zero x h = absurd (omega arith)
 value_by (suc most) x h =
     value_append 0 (cond (ltb x 10) [] (digits_by most (x / 10))) (48 + x % 10) ∙
     turn (value_by most (x / 10)) (ltb x 10) refl

@@ -9,16 +9,17 @@ ghost use Rattle.decimal.specs.Value.{is_digit};
 pub fn is_digit(byte: u8) -> bool
     ensures { result ≡ is_digit byte }
 {
-    b'0' <= byte && byte <= b'9'
+    byte.is_ascii_digit()
 }
 
 // The last digit of x.
 fn digit(x: usize) -> u8
     ensures { result ≡ 48 + x % 10 }
 {
-    48 + (x % 10) as u8
+    b'0' + (x % 10) as u8
 }
 
+#[tactic(auto, using(crate::proofs::Decimal::decimal_last))]
 pub fn put_number(x: usize, at: usize, out: &mut [u8]) -> usize
     requires { Room at (decimal x) out.old }
     ensures { Appended at (decimal x) result out.old out.new }

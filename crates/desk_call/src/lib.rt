@@ -8,6 +8,7 @@ ghost use Rattle.desk_call.specs.Printed.{Reports};
 
 use outcome::Outcome;
 use std::fs::File;
+use std::os::fd::AsRawFd;
 
 // How many bytes are read of a chart's file and of a rule's.
 pub const CHART: usize = 16906;
@@ -29,10 +30,10 @@ pub fn read(rt: &HostRuntime, name: &[u8], space: &mut [u8]) -> usize
     let Ok(name) = str::from_utf8(name) else {
         return 0;
     };
-    match File::open(rt, name) {
-        Ok(mut file) => telling::read_full(&mut file, space),
-        Err(_) => 0,
-    }
+    let Ok(file) = File::open(rt, name) else {
+        return 0;
+    };
+    io::read_full(file.as_raw_fd(), space)
 }
 
 // What a call answered, and how many bytes are printed of it.

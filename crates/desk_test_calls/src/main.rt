@@ -5,15 +5,15 @@
 ghost use Rattle.std.specs.Prelude.{◌≡◌};
 ghost use Rattle.desk_test_calls.specs.Turned.{turned};
 
-use call_reader::Handed;
 use call_row::Choice;
+use chart::ArrowWords;
 use std::io::Print;
 
 // What a reader hands out, and what it hands out after that.
 #[derive(Clone, Copy)]
 pub struct Turned {
-    pub first: Handed,
-    pub following: Handed,
+    pub first: Option<ArrowWords>,
+    pub following: Option<ArrowWords>,
 }
 
 // A reader of these bytes at this number, moved on by one.
@@ -34,22 +34,15 @@ fn print_word(rt: &HostRuntime, word: u64) {
     print!(rt; " {word}").ok();
 }
 
-fn print_handed(rt: &HostRuntime, handed: Handed) {
+fn print_handed(rt: &HostRuntime, handed: Option<ArrowWords>) {
     match handed {
-        Handed::Arrow(a) => {
+        Some(a) => {
             print_word(rt, a.start as u64);
             print_word(rt, a.end as u64);
             print_word(rt, a.fewest as u64);
             print_word(rt, a.most as u64);
         }
-        Handed::Finished => print(rt, b" finished"),
-    }
-}
-
-fn is_finished(handed: Handed) -> bool {
-    match handed {
-        Handed::Arrow(_a) => false,
-        Handed::Finished => true,
+        None => print(rt, b" finished"),
     }
 }
 
@@ -57,13 +50,11 @@ fn is_finished(handed: Handed) -> bool {
 fn print_turn(rt: &HostRuntime, chart: &[u8], number: usize) -> bool {
     let t = turn(chart, number);
     print!(rt; "{number}:").ok();
-    let first = t.first;
-    print_handed(rt, first);
+    print_handed(rt, t.first);
     print(rt, b", then");
-    let following = t.following;
-    print_handed(rt, following);
+    print_handed(rt, t.following);
     print(rt, b"\n");
-    is_finished(first)
+    t.first.is_none()
 }
 
 // A line for each number, up to the first at which the reader says finished. No chart has more than 2,048 arrows.
@@ -76,17 +67,18 @@ fn print_arrows(rt: &HostRuntime, chart: &[u8]) {
 }
 
 fn print_bytes(rt: &HostRuntime, bytes: &[u8]) {
-    for i in 0..bytes.len() {
-        print_word(rt, words::wide(bytes[i]) as u64);
+    for byte in bytes {
+        print_word(rt, u64::from(*byte));
     }
 }
 
 // The bytes of the row that is asked for: the choice in byte 0 (0: overview), n in bytes 1 to 2, t in 3 to 4.
 fn print_row<'a>(rt: &HostRuntime, overview: &'a [u8], detail: &'a [u8], ask: &[u8; 5]) {
-    let mut choice = Choice::Detail;
-    if ask[0] == 0 {
-        choice = Choice::Overview;
-    }
+    let choice = if ask[0] == 0 {
+        Choice::Overview
+    } else {
+        Choice::Detail
+    };
     let n = words::be16(ask, 1);
     let t = words::be16(ask, 3);
     let row = call_row::row(overview, detail, choice, n as usize, t as usize);

@@ -14,7 +14,6 @@ ghost use Rattle.call_reader.specs.Reading.{handed};
 ghost use Rattle.coded.specs.Coded.{Coded, size_of, coded_arrow};
 ghost use Rattle.refusal_words.specs.Words.{words_of};
 
-use call_reader::Handed;
 use call_row::Place;
 use coded::{CodedAnswer, CodedArrow};
 use outcome::{Outcome, Written};
@@ -66,11 +65,7 @@ pub extern "C" fn doilystrand_show(
 pub extern "C" fn doilystrand_kind_of_rule(rule: &[u8]) -> CodedAnswer
     ensures { Coded rule.now result }
 {
-    let answer = call_kind::kind_of_rule(rule);
-    let outcome = answer.outcome;
-    let kind = answer.kind;
-    let kind = coded::code_of(kind);
-    CodedAnswer { outcome, kind }
+    call_kind::kind_of_rule(rule).into()
 }
 
 #[unsafe(no_mangle)]
@@ -117,10 +112,7 @@ pub extern "C" fn doilystrand_row(
 pub extern "C" fn doilystrand_arrow(chart: &[u8], number: usize) -> CodedArrow
     ensures { result ≡ coded_arrow (handed chart.now number) }
 {
-    match call_reader::hand_out(chart, number) {
-        Handed::Arrow(a) => coded::coded_words(a),
-        Handed::Finished => coded::coded_end(),
-    }
+    call_reader::hand_out(chart, number).into()
 }
 
 // What an outcome says in words; of success only that no paper was wrong.

@@ -1,5 +1,5 @@
 -- Numbers on either way, after k sweeps; in the end they are the model's.
-use mathlib.Core.Path.{◌≡◌, refl, sym, subst, ◌∙◌}
+use mathlib.Core.Path.{◌≡◌, refl, sym, ap, subst, ◌∙◌}
 use mathlib.Core.Bool.{Bool, true, false, cond}
 use mathlib.Core.List.{List}
 use Prim.Native.Nat.{ℕ, suc, ◌≤◌, ◌<◌}
@@ -23,7 +23,7 @@ use Rattle.engine.specs.Rest.{hurried_of, AtRest}
 use Rattle.engine.specs.AsModel.{AsModel}
 use Rattle.sweeps.specs.Sweep.{Still, Sweep, Sweeps}
 use Rattle.walks.specs.Walk.{Walks}
-use Rattle.sweeps.specs.declared.Tally.{Tally}
+use Rattle.std.specs.Prelude.{Option, Some, is_some, unwrap_or}
 use Rattle.engine.proofs.Descent.{Falls, falls_none, falls_moved, falls_all}
 use Rattle.engine.proofs.Ascent.{rises_none, rises_less, rises_moved, rises_swept, rises_all}
 
@@ -148,26 +148,32 @@ module _
 
     module _
         {pace : Way} {floor : ℕ} (vs new : List ℕ) (e : pace ≡ hurried_of way b) (u : OnTheWay way chart go k old vs)
-        (still : Still way chart go 0 floor (values vs)) {t : Tally} (sweeps : Sweeps pace chart m floor t vs new) where
-      swept_at : Sweep (hurried_of way b) chart m go t vs new
+        (still : Still way chart go 0 floor (values vs)) {last : Option ℕ} (sweeps : Sweeps pace chart m floor last vs new) where
+      swept_at : Sweep (hurried_of way b) chart m go last vs new
       swept_at =
-          (subst (λ pace. Sweeps pace chart m floor t vs new) e sweeps).made go (ready_hurried way b u.ready)
+          (subst (λ pace. Sweeps pace chart m floor last vs new) e sweeps).made go (ready_hurried way b u.ready)
           (λ i z l. held_hurried way b (still i z l))
 
       -- numbers that a sweep did not change are the model's
-      pub way_done : t.any ≡ false → AsModel way chart n go old new
+      pub way_done : is_some last ≡ false → AsModel way chart n go old new
       way_done f =
           let w = subst (λ any. Went (hurried_of way b) chart m go any vs new) f swept_at.went in
           end way k b new (way_more b late u w).model (λ i l. went_held w (swept_at.held i l))
 
       -- after a sweep that did
       pub way_next :
-          (j : ℕ) → t.any ≡ true → j ≤ suc k →
+          (j : ℕ) {floor : ℕ} → last ≡ Some floor → j ≤ suc k →
           OnTheWay way chart go j old new × (left way (values new) < left way (values vs)) ×
-          Still way chart go 0 t.last (values new)
-      way_next j f l =
-          let v = way_more b late u swept_at.went in (
+          Still way chart go 0 floor (values new)
+      way_next j e l =
+          let v = way_more b late u swept_at.went in
+          let still = subst (λ last. Still (hurried_of way b) chart go 0 (unwrap_or last m) (values new)) e swept_at.still in (
             record { ready = v.ready; model = swept way j k b vs new l u.model v.model swept_at.held },
-            omega (arith, swept_at.went.nearer f, hurried_left way b (values new), hurried_left way b (values vs)),
-            λ i z h. held_slow way b (swept_at.still i z h),
+            omega (
+              arith,
+              swept_at.went.nearer (ap is_some e),
+              hurried_left way b (values new),
+              hurried_left way b (values vs),
+            ),
+            λ i z h. held_slow way b (still i z h),
           )

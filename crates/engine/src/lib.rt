@@ -3,12 +3,13 @@
 // its hint (the predecessor). In turn numbers rise along the hints and all arrows are tried.
 #![tactic(auto)]
 
-ghost use Rattle.std.specs.Prelude.{◌≡◌, true, cond, ℕ, ◌+◌, ◌≤◌, ◌<◌, min, length};
+ghost use Rattle.std.specs.Prelude.{◌≡◌, true, ℕ, ◌≤◌, ◌<◌, length};
 ghost use Rattle.model.specs.Engine.{num};
 ghost use Rattle.hints.specs.Values.{radix, tested_of};
 ghost use Rattle.engine.specs.AsModel.{Prepared, AllAsModel};
 ghost use Rattle.engine.specs.Rest.{AtRest, hurried_of};
 
+use arrows::Chart;
 use ways::{Climb, Way};
 
 // Every number has a side, so that none can rise.
@@ -16,14 +17,7 @@ fn all_sided(numbers: &[u32]) -> bool
     ensures { result ≡ true → (s : ℕ) → s < length numbers.now →
         radix ≤ tested_of (num numbers.now s) }
 {
-    let mut s = 0;
-    while s < numbers.len() {
-        if hints::tested(numbers[s]) < hints::RADIX {
-            return false;
-        }
-        s += 1;
-    }
-    true
+    numbers.iter().all(|&x| hints::RADIX <= hints::tested(x))
 }
 
 // No state has another value or side than the first.
@@ -31,17 +25,13 @@ fn all_alike(numbers: &[u32]) -> bool
     ensures { result ≡ true → (s : ℕ) → s < length numbers.now →
         tested_of (num numbers.now s) ≡ tested_of (num numbers.now 0) }
 {
-    let mut s = 0;
-    while s < numbers.len() {
-        if hints::tested(numbers[s]) != hints::tested(numbers[0]) {
-            return false;
-        }
-        s += 1;
-    }
-    true
+    numbers
+        .iter()
+        .all(|&x| hints::tested(x) == hints::tested(numbers[0]))
 }
 
 // No number can rise: all have a side, or minutes that fall are the same everywhere.
+#[tactic(auto, using(crate::proofs::Resting::sided_rest, crate::proofs::Resting::alike_rest))]
 fn at_rest(way: Way, numbers: &[u32]) -> bool
     ensures { AtRest result way numbers.now }
 {
@@ -60,66 +50,42 @@ fn hurried(way: Way, leap: bool) -> Way
 {
     match way {
         Way::Lower => Way::Lower,
-        Way::Raise(climb) => Way::Raise(Climb {
-            ticks: climb.ticks,
-            leap,
-            cap: climb.cap,
-        }),
+        Way::Raise(climb) => Way::Raise(Climb { leap, ..climb }),
     }
-}
-
-// One more than the sweeps done, up to n.
-fn counted(done: usize, n: usize) -> usize
-    requires { done ≤ n }
-    ensures { result ≡ min (done + 1) n }
-{
-    if done < n {
-        return done + 1;
-    }
-    n
-}
-
-// The floor for the next sweep: what is known of arrows holds until a number changes.
-fn kept(moved: bool, floor: usize) -> usize
-    ensures { result ≡ cond moved 0 floor }
-{
-    if moved {
-        return 0;
-    }
-    floor
 }
 
 // Numbers rise until no arrow raises one. What rises after n sweeps rises without end, and goes to the cap at once.
-fn rise(way: Way, chart: &[u8], n: usize, m: usize, row: &mut [u8], numbers: &mut [u32])
-    requires { Prepared way chart.now n m numbers.old }
-    ensures { AllAsModel way chart.now n numbers.old numbers.new }
+fn rise(way: Way, chart: Chart, row: &mut [u8], numbers: &mut [u32])
+    requires { Prepared way chart.bytes.now chart.states chart.arrows numbers.old }
+    ensures { AllAsModel way chart.entry.bytes.now chart.entry.states numbers.old numbers.new }
 {
     let mut done = 0;
     let mut seen = true;
     let mut floor = 0;
     loop {
-        let pace = hurried(way, n <= done);
-        let track = walks::along(pace, seen, chart, n, m, row, numbers);
+        let pace = hurried(way, chart.states <= done);
+        let track = walks::along(pace, seen, chart, row, numbers);
         if at_rest(way, numbers) {
             return;
         }
-        let tally = sweeps::sweep(pace, kept(track.moved, floor), chart, n, m, numbers);
-        if !tally.any {
+        // What is known of the arrows before the floor holds until a number changes.
+        let known = if track.moved { 0 } else { floor };
+        let Some(last) = sweeps::sweep(pace, known, chart, numbers) else {
             return;
-        }
+        };
         seen = track.seen;
-        floor = tally.last;
-        done = counted(done, n);
+        floor = last;
+        done = chart.states.min(done + 1);
     }
 }
 
 // The same, and at once where no number can rise: the model's minutes.
-pub fn settle(way: Way, chart: &[u8], n: usize, m: usize, row: &mut [u8], numbers: &mut [u32])
-    requires { Prepared way chart.now n m numbers.old }
-    ensures { AllAsModel way chart.now n numbers.old numbers.new }
+pub fn settle(way: Way, chart: Chart, row: &mut [u8], numbers: &mut [u32])
+    requires { Prepared way chart.bytes.now chart.states chart.arrows numbers.old }
+    ensures { AllAsModel way chart.entry.bytes.now chart.entry.states numbers.old numbers.new }
 {
     if at_rest(way, numbers) {
         return;
     }
-    rise(way, chart, n, m, row, numbers);
+    rise(way, chart, row, numbers);
 }

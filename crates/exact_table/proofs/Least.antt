@@ -1,11 +1,12 @@
 -- The least of some numbers, up to 257, found one after another.
-use mathlib.Core.Path.{◌≡◌, refl, sym, ap, ◌∙◌}
-use mathlib.Core.Logic.{◌⊎◌, inl, inr, ⊎_elim, by_cases}
+use mathlib.Core.Path.{◌≡◌}
+use mathlib.Core.Logic.{by_cases}
 use mathlib.Core.List.{List}
-use Prim.Native.Nat.{ℕ, suc, ◌+◌, ◌-◌, ◌*◌, ◌≤◌, ◌<◌, min}
+use Prim.Native.Nat.{ℕ, ◌+◌, ◌-◌, ◌*◌, ◌≤◌, ◌<◌, min}
 use native.Mathlib.Omega.{arith}
 use native.Mathlib.Nat.{mul-le-mul_right}
 use native.Mathlib.Decide.{dec_le}
+use borrow.Author.Count.{below_more}
 use Rattle.moves.specs.declared.Move.{Move}
 use Rattle.moves.specs.Moves.{arrow_by}
 use Rattle.exact_table.specs.Rows.{left_in}
@@ -15,51 +16,34 @@ use Rattle.exact_table.specs.Lowered.{LeastAfter}
 pub in_rows : (n s : ℕ) {m minute : ℕ} → m ≤ minute → s < n → m * n + s < minute * n + n
 in_rows n s l h = omega (arith, mul-le-mul_right n l)
 
--- of the numbers from one place up to another, which is the first or not past `last`
+-- of the numbers from `first` up to another place, none of them past `last`
 pub record LeastOf (x : ℕ → ℕ) (first last to r : ℕ) : Type 0 where
-  pub up : first ≤ to
-  pub short : (to ≡ first) ⊎ (to ≤ suc last)
   pub low : r ≤ 257
   pub least : (d : ℕ) → first ≤ d → d < to → r ≤ x d
-  pub some : r < 257 → (d : ℕ) × (first ≤ d) × (d < to) × (x d ≡ r)
+  pub some : r < 257 → (d : ℕ) × (first ≤ d) × (d ≤ last) × (x d ≡ r)
 
 pub least_none : (x : ℕ → ℕ) (first last : ℕ) → LeastOf x first last first 257
 least_none x first last =
     record {
-      up = omega arith;
-      short = inl refl;
       low = omega arith;
       least = λ d l h. absurd (let z : ⊥ = omega arith in z);
       some = λ l. absurd (let z : ⊥ = omega arith in z);
     }
 
-module _ {x : ℕ → ℕ} {first last to r : ℕ} (h : LeastOf x first last to r) where
-  -- one number more, which is less or not
-  pub least_more :
-      to ≤ last → {new : ℕ} → ((x to < r) × (new ≡ x to)) ⊎ ((r ≤ x to) × (new ≡ r)) →
-      LeastOf x first last (to + 1) new
-  least_more l {new} came =
-      record {
-        up = omega (arith, h.up);
-        short = inr (omega arith);
-        low = omega (arith, h.low, below);
-        least = λ d i j.
-            by_cases (dec_le (suc d) to) (λ k. omega (arith, h.least d i k, below))
-            (λ k. let e : d ≡ to = omega arith in omega (arith, below, ap x e));
-        some = chosen came;
-      }
-    where
-      below : (new ≤ r) × (new ≤ x to)
-      below = ⊎_elim (λ w. (omega arith, omega arith)) (λ w. (omega arith, omega arith)) came
-
-      Some : Type 0
-      Some = new < 257 → (d : ℕ) × (first ≤ d) × (d < to + 1) × (x d ≡ new)
-
-      chosen : ((x to < r) × (new ≡ x to)) ⊎ ((r ≤ x to) × (new ≡ r)) → Some
-      chosen (inl w) small = (to, h.up, omega arith, sym w.1)
-      chosen (inr w) small =
-          let y = h.some (omega (arith, w.1)) in
-          (y.0, y.1, omega (arith, y.2), y.3 ∙ sym w.1)
+-- one number more
+pub least_more :
+    {x : ℕ → ℕ} {first last to r new : ℕ} → LeastOf x first last to r → first ≤ to → to ≤ last →
+    new ≡ min r (x to) → LeastOf x first last (to + 1) new
+least_more {x} {first} {last} {to} {r} {new} h up l is =
+    record {
+      low = omega (arith, h.low);
+      least = λ d i k.
+          below_more (λ d. first ≤ d → new ≤ x d) to (λ d k i. omega (arith, h.least d i k)) (λ i. omega arith) d k i;
+      some = λ small. by_cases (dec_le r (x to)) (kept small) (λ k. (to, up, l, omega arith));
+    }
+  where
+    kept : new < 257 → r ≤ x to → (d : ℕ) × (first ≤ d) × (d ≤ last) × (x d ≡ new)
+    kept small k = let y = h.some (omega arith) in (y.0, y.1, y.2, omega (arith, y.3))
 
 -- past the last, it is the least that the arrow leads to
 pub least_all :
@@ -72,7 +56,5 @@ least_all w table {last} e over h =
       least = λ d t. h.least d t.least (omega (arith, t.inside, t.greatest));
       some = λ small.
           let y = h.some small in
-          let low : y.0 ≤ last =
-          ⊎_elim (λ e. absurd (let z : ⊥ = omega (arith, y.1, y.2) in z)) (λ l. omega (arith, y.2)) h.short in
-          (y.0, record { inside = omega (arith, low); least = y.1; greatest = omega (arith, low) }, y.3);
+          (y.0, record { inside = omega (arith, y.2); least = y.1; greatest = omega (arith, y.2) }, y.3);
     }

@@ -43,26 +43,27 @@ swept_none =
     }
 
 module _
-    {n longest minute from to i : ℕ}
+    {n longest minute from to i next : ℕ}
     {words old mid : List ℕ}
     {told : Bool}
     (ws : Words n longest minute from to words old)
     (first : from ≤ i)
     (last : i < to)
+    (on : next ≡ i + 1)
     (swept : Swept n longest minute from i words told old mid) where
   abbrev a : Arrow
   a = move_of (num words i)
 
   -- one arrow more
   abbrev SweptOn : Bool → List ℕ → Type 0
-  SweptOn now new = Swept n longest minute from (i + 1) words now old new
+  SweptOn now new = Swept n longest minute from next words now old new
 
   -- for the arrows before i and for i
-  up_to : (P : ℕ → Type 0) → ((j : ℕ) → from ≤ j → j < i → P j) → P i → (j : ℕ) → from ≤ j → j < i + 1 → P j
+  up_to : (P : ℕ → Type 0) → ((j : ℕ) → from ≤ j → j < i → P j) → P i → (j : ℕ) → from ≤ j → j < next → P j
   up_to P before here j l h =
       by_cases (dec_le (suc j) i) (λ k. before j l k) (λ k. let z : i ≡ j = omega arith in subst P z here)
 
-  word : (j : ℕ) → from ≤ j → j < i + 1 → Word n longest minute (move_of (num words j)) mid
+  word : (j : ℕ) → from ≤ j → j < next → Word n longest minute (move_of (num words j)) mid
   word j l h = word_still swept.kept.size (ws.arrows j l (omega arith))
 
   swept_still : {r : Bool} {new : List ℕ} → Still n longest minute a r mid new → SweptOn told new
@@ -94,7 +95,7 @@ module _
       low : Word n longest minute a mid
       low = word i first (omega arith)
 
-      kept : Kept n minute from (i + 1) words mid new
+      kept : Kept n minute from next words mid new
       kept = kept_lowered first (omega arith) low f
 
       -- the sum falls by as much as the number does
@@ -112,7 +113,7 @@ module _
           omega (arith, number, c.after.least d t, below_kept kept (minute - d) a.end under low.end)
 
       later :
-          (d : ℕ) → 1 ≤ d → (j : ℕ) → from ≤ j → j < i + 1 → Takes (move_of (num words j)) longest d →
+          (d : ℕ) → 1 ≤ d → (j : ℕ) → from ≤ j → j < next → Takes (move_of (num words j)) longest d →
           Level n minute new (move_of (num words j)) d
       later d some =
           up_to (λ j. Takes (move_of (num words j)) longest d → Level n minute new (move_of (num words j)) d)
@@ -127,14 +128,18 @@ module _
 
   -- what was lowered is told from there on
   pub swept_lowered :
-      {r now : Bool} {new : List ℕ} → Lowered n longest minute a r mid new →
+      {word : ℕ} {r now : Bool} {new : List ℕ} → word ≡ num words i →
+      Lowered n longest minute (move_of word) r mid new →
       ((r ≡ true) × (now ≡ true)) ⊎ ((r ≡ false) × (now ≡ told)) → SweptOn now new
-  swept_lowered {r} {now} {new} f came =
+  swept_lowered {r = r} {now} {new} is f came =
       ⊎_elim (λ still. tells false still.result (swept_still still))
-      (λ c. tells true c.result (swept_fell f c)) (lowered_cases f)
+      (λ c. tells true c.result (swept_fell by c)) (lowered_cases by)
     where
+      by : Lowered n longest minute a r mid new
+      by = subst (λ w. Lowered n longest minute (move_of w) r mid new) is f
+
       tells : (b : Bool) → r ≡ b → SweptOn (cond b true told) new → SweptOn now new
       tells b e =
-          let is : now ≡ cond b true told =
+          let same : now ≡ cond b true told =
           ⊎_elim (λ w. rw (sym e ∙ w.0) w.1) (λ w. rw (sym e ∙ w.0) w.1) came in
-          subst (λ b. SweptOn b new) (sym is)
+          subst (λ b. SweptOn b new) (sym same)

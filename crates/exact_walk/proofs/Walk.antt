@@ -2,24 +2,20 @@
 use mathlib.Core.Path.{◌≡◌, sym, ap, subst, ◌∙◌}
 use mathlib.Core.Bool.{Bool}
 use mathlib.Core.List.{List, [], ◌∷◌}
+use mathlib.Core.Option.{some}
 use Prim.Native.Nat.{ℕ, suc, ◌-◌, ◌≤◌, ◌<◌}
 use native.Mathlib.Omega.{arith}
 use lib.ListN.{length}
-use lib.Dec.{eqb}
 use borrow.Author.Tests.{eqb-true}
-use Rattle.base.proofs.Truth.{and_iff}
-use Rattle.outcome.specs.Refusal.{found}
 use Rattle.tctl.specs.Chart.{Arrow}
 use Rattle.chart.specs.declared.ArrowWords.{ArrowWords}
-use Rattle.chart.specs.Bytes.{arrow_words, arrow_of, chart_of}
+use Rattle.chart.specs.Bytes.{arrow_of, chart_of}
 use Rattle.shown.specs.Shown.{Position, place}
 use Rattle.shown.specs.Exact.{Serves, Onward, first_minutes, serves, or_number, walk_down}
 use Rattle.shown.specs.Steps.{first_arrow}
-use Rattle.shown.proofs.Serves.{serves_iff}
 use Rattle.shown.proofs.Exact.{first_onward, length_down}
 use Rattle.exact_table.specs.Rows.{left_in}
 use Rattle.exact_walk.specs.Walk.{steps_in, walk_in, Walkable}
-use Rattle.exact_walk.proofs.Minutes.{found_first}
 
 pub walk_in_length :
     (chart : List ℕ) (n : ℕ) (table : List ℕ) (k m s : ℕ) → length (walk_in chart n table k m s) ≡ suc k
@@ -38,21 +34,21 @@ pub record Stepped (chart : List ℕ) (n : ℕ) (table : List ℕ) (left k m s :
   pub number : left_in n table (m - d) a.end ≡ k
   pub walk : walk_in chart n table left m s ≡ place s d ∷ walk_in chart n table k (m - d) a.end
 
--- The first arrow that serves is the one that is read, and the first of its minutes is found, since an arrow leads on.
+-- The first arrow that serves is the one that is read, and the first of its minutes is found.
 pub stepped :
-    (chart : List ℕ) (n : ℕ) (table : List ℕ) (s : ℕ) {left k m d : ℕ} {a : ArrowWords} → left ≡ suc k → m < 256 →
+    (chart : List ℕ) (n : ℕ) (table : List ℕ) (s : ℕ) {left k m d : ℕ} {a : ArrowWords} → left ≡ suc k →
     Onward (chart_of chart).arrows (steps_in n table k) m s →
     arrow_of a ≡ first_arrow (serves (steps_in n table k) m s) (chart_of chart).arrows →
-    d ≡ or_number (suc m) (first_minutes (steps_in n table k) m (arrow_of a)) → Stepped chart n table left k m s a d
+    first_minutes (steps_in n table k) m (arrow_of a) ≡ some d → Stepped chart n table left k m s a d
 unfolding walk_down
-stepped chart n table s {left} {k} {m} {d} {a} e few onward is minutes =
+stepped chart n table s {left} {k} {m} {d} {a} e onward is minutes =
     record {
       inside = serve.takes.inside;
       number = eqb-true (left_in n table (m - d) a.end) k serve.there;
       walk =
           ap (λ x. walk_in chart n table x m s) e ∙
           ap (λ b. step (or_number 0 (first_minutes f m b)) b) (sym is) ∙
-          ap (λ d. step d (arrow_of a)) (sym same);
+          ap (λ d. step d (arrow_of a)) same;
     }
   where
     f : ℕ → ℕ → Bool
@@ -61,28 +57,23 @@ stepped chart n table s {left} {k} {m} {d} {a} e few onward is minutes =
     step : ℕ → Arrow → List Position
     step d b = place s d ∷ walk_in chart n table k (m - d) b.end
 
-    first_serves : Serves f m s (arrow_of a) (or_number 0 (first_minutes f m (arrow_of a)))
-    first_serves =
-        subst (λ b. Serves f m s b (or_number 0 (first_minutes f m b))) (sym is)
-        (first_onward (chart_of chart).arrows f m s onward).1
-
-    same : d ≡ or_number 0 (first_minutes f m (arrow_of a))
-    same =
-        let yes = (serves_iff f m (arrow_of a) s).1 (_, first_serves) in
-        found_first a k few n table d minutes ((and_iff (eqb a.start s) (found (first_minutes f m (arrow_of a)))).0 yes).1
+    same : or_number 0 (first_minutes f m (arrow_of a)) ≡ d
+    same = ap (or_number 0) minutes
 
     serve : Serves f m s (arrow_of a) d
-    serve = subst (Serves f m s (arrow_of a)) (sym same) first_serves
+    serve =
+        subst (Serves f m s (arrow_of a)) same
+        (subst (λ b. Serves f m s b (or_number 0 (first_minutes f m b))) (sym is)
+        (first_onward (chart_of chart).arrows f m s onward).1)
 
--- where steps are left, by the numbers, arrow i was found and its first minutes
+-- where steps are left, by the numbers, an arrow was found and its first minutes
 pub step_down :
     {chart : List ℕ} {n m c k s : ℕ} {table out : List ℕ} → Walkable chart n m c k s table out →
-    {left minutes state d : ℕ} {a : ArrowWords} (i : ℕ) → state < n → minutes ≤ c → left < 257 →
-    left_in n table minutes state ≡ left → 0 < left → a ≡ arrow_words chart i →
-    arrow_of (arrow_words chart i) ≡
-    first_arrow (serves (steps_in n table (left - 1)) minutes state) (chart_of chart).arrows →
-    d ≡ or_number (suc minutes) (first_minutes (steps_in n table (left - 1)) minutes (arrow_of a)) →
+    {left minutes state d : ℕ} {a : ArrowWords} → state < n → minutes ≤ c → left ≤ k →
+    left_in n table minutes state ≡ left → 0 < left →
+    arrow_of a ≡ first_arrow (serves (steps_in n table (left - 1)) minutes state) (chart_of chart).arrows →
+    first_minutes (steps_in n table (left - 1)) minutes (arrow_of a) ≡ some d →
     Stepped chart n table left (left - 1) minutes state a d
-step_down {chart} {n} {table = table} p {left} {minutes} {state} i h l low e some read is first =
-    stepped chart n table state (omega arith) (omega (arith, p.inside.few))
-    (p.down (left - 1) minutes state l h (omega (arith, e)) (omega arith)) (ap arrow_of read ∙ is) first
+step_down {chart} {n} {table = table} p {left} {minutes} {state} h l low e more =
+    stepped chart n table state (omega arith)
+    (p.down (left - 1) minutes state l h (omega (arith, e)) (omega (arith, p.short)))

@@ -1,9 +1,11 @@
 -- The walk by lent numbers: row m, of m minutes left, lies at m × n.
-use Rattle.std.specs.Prelude.{◌≡◌, Bool, List, ℕ, suc, ◌*◌, ◌≤◌, ◌<◌, length}
+use Rattle.std.specs.Prelude.{◌≡◌, Bool, List, Option, MatchOption, ℕ, suc, ◌*◌, ◌≤◌, ◌<◌, length}
+use Rattle.std.proofs.Math.Option.{none, some}
+use Rattle.tctl.specs.Chart.{Arrow}
 use Rattle.chart.specs.Bytes.{chart_of}
 use Rattle.chart.specs.Shape.{Passed}
 use Rattle.shown.specs.Shown.{Position}
-use Rattle.shown.specs.Exact.{Onward, walk_down, by_numbers}
+use Rattle.shown.specs.Exact.{Onward, first_minutes, walk_down, by_numbers}
 use Rattle.exact_table.specs.Rows.{left_in}
 
 -- so many steps are left, by the numbers, of the minutes and the state
@@ -14,6 +16,12 @@ steps_in n table left m s = by_numbers (left_in n table) left m s
 pub record InRows (n minutes : ℕ) (table : List ℕ) : Type 0 where
   pub few : minutes < 256
   pub rows : suc minutes * n ≤ length table
+
+-- r is the first of the arrow's minutes, of so many left, that leads to `left` steps, if one does
+abbrev pub FirstMinutes : Arrow → ℕ → ℕ → ℕ → List ℕ → Option ℕ → Type 0
+FirstMinutes a left minutes n table r =
+    let first = first_minutes (steps_in n table left) minutes a in
+    MatchOption r (first ≡ none) (λ d. first ≡ some d)
 
 -- k steps and m minutes from s, each to a number that is one less
 abbrev pub walk_in : List ℕ → ℕ → List ℕ → ℕ → ℕ → ℕ → List Position

@@ -1,75 +1,70 @@
 // The walk by the fewest steps for each minute left, written as the run that is shown.
 #![tactic(auto)]
 
-ghost use Rattle.std.specs.Prelude.{◌≡◌, suc, ◌<◌};
+ghost use Rattle.std.specs.Prelude.{◌≡◌, ◌<◌};
+ghost use Rattle.std.proofs.Math.Option.{some};
 ghost use Rattle.append.specs.Piece.{Appended};
-ghost use Rattle.chart.specs.Bytes.{arrow_words, arrow_of, chart_of};
-ghost use Rattle.chart.specs.Shape.{Passed};
+ghost use Rattle.chart.specs.Bytes.{arrow_of, chart_of};
 ghost use Rattle.arrow_links.specs.Linked.{Linked};
-ghost use Rattle.shown.specs.Exact.{Onward, first_minutes, serves, or_number};
+ghost use Rattle.shown.specs.Exact.{Onward, first_minutes, serves};
 ghost use Rattle.shown.specs.Steps.{first_arrow};
 ghost use Rattle.run_walk.specs.RunBytes.{run_bytes};
-ghost use Rattle.exact_walk.specs.Walk.{steps_in, InRows, walk_in, Walkable};
+ghost use Rattle.exact_walk.specs.Walk.{steps_in, InRows, FirstMinutes, walk_in, Walkable};
 
+use arrows::Chart;
 use chart::ArrowWords;
 
-// The most states and the most arrows of a chart.
-const STATES: usize = 256;
-
-const ARROWS: usize = 2048;
-
-// The first duration, of so many minutes left, in which the arrow leads to `left` steps; more than are left if none does.
-fn first_minutes(a: ArrowWords, left: u32, minutes: usize, n: usize, table: &[u32]) -> usize
+// The first duration, of so many minutes left, in which the arrow leads to `left` steps.
+fn first_minutes(a: ArrowWords, left: u32, minutes: usize, n: usize, table: &[u32]) -> Option<usize>
     requires { (a.end < n) × InRows n minutes table.now }
-    ensures { result ≡ or_number (suc minutes) (first_minutes (steps_in n table.now left) minutes (arrow_of a)) }
+    ensures { FirstMinutes (arrow_of a) left minutes n table.now result }
 {
-    let end = a.end;
-    let last = exact_table::last_minute(minutes, a.most as usize);
-    let mut d = a.fewest as usize;
-    while d <= last {
+    let last = minutes.min(a.most as usize);
+    // not `..=`: that loop ends in two places
+    for d in a.fewest as usize..last + 1 {
         let row = (minutes - d) * n;
-        if table[row + end] == left {
-            return d;
+        if table[row + a.end] == left {
+            return Some(d);
         }
-        d += 1;
     }
-    minutes + 1
+    None
 }
 
-// The lowest arrow from s that leads to `left` steps.
+// The lowest arrow from s that leads to `left` steps, and the first of its minutes that do.
 fn next_arrow(
-    chart: &[u8],
-    n: usize,
-    m: usize,
+    chart: Chart,
     firsts: &[u32],
     nexts: &[u32],
     left: u32,
     minutes: usize,
     s: usize,
     table: &[u32],
-) -> usize
-    requires { Passed chart.now n m × Linked chart.now n m 0 firsts.now nexts.now × (s < n) ×
-        InRows n minutes table.now × Onward (chart_of chart.now).arrows (steps_in n table.now left) minutes s }
-    ensures { (arrow_of (arrow_words chart.now result) ≡
-        first_arrow (serves (steps_in n table.now left) minutes s) (chart_of chart.now).arrows) ×
-        (result < m) }
+) -> (ArrowWords, usize)
+    requires { Linked chart.bytes.now chart.states chart.arrows 0 firsts.now nexts.now
+        × (s < chart.states) × InRows chart.states minutes table.now
+        × Onward (chart_of chart.bytes.now).arrows
+        (steps_in chart.states table.now left) minutes s }
+    ensures arrow { arrow_of result.0 ≡
+        first_arrow (serves (steps_in chart.entry.states table.now left) minutes s)
+        (chart_of chart.entry.bytes.now).arrows }
+    ensures end { result.0.end < chart.entry.states }
+    ensures minutes { first_minutes (steps_in chart.entry.states table.now left) minutes
+        (arrow_of result.0) ≡ some result.1 }
 {
     let mut i = firsts[s] as usize;
-    while i < m {
-        let a = arrows::arrow(chart, n, i);
-        if first_minutes(a, left, minutes, n, table) <= minutes {
-            return i;
+    while i < chart.arrows {
+        let a = chart.arrow(i);
+        if let Some(d) = first_minutes(a, left, minutes, chart.states, table) {
+            return (a, d);
         }
         i = nexts[i] as usize;
     }
-    0
+    unreachable!()
 }
 
 // The walk of k steps and c minutes from s, as bytes, by the links of the arrows.
 fn follow(
-    chart: &[u8],
-    n: usize,
-    m: usize,
+    chart: Chart,
     firsts: &[u32],
     nexts: &[u32],
     c: usize,
@@ -78,20 +73,17 @@ fn follow(
     table: &[u32],
     out: &mut [u8],
 ) -> usize
-    requires { Walkable chart.now n m c k s table.now out.old ×
-        Linked chart.now n m 0 firsts.now nexts.now }
-    ensures { Appended 0 (run_bytes (walk_in chart.now n table.now k c s)) result
+    requires { Walkable chart.bytes.now chart.states chart.arrows c k s table.now out.old ×
+        Linked chart.bytes.now chart.states chart.arrows 0 firsts.now nexts.now }
+    ensures { Appended 0
+        (run_bytes (walk_in chart.entry.bytes.now chart.entry.states table.now k c s)) result
         out.old out.new }
 {
     let mut state = s;
     let mut minutes = c;
-    let mut left = k;
     let mut end = 0;
-    while 0 < left {
-        left -= 1;
-        let i = next_arrow(chart, n, m, firsts, nexts, left, minutes, state, table);
-        let a = arrows::arrow(chart, n, i);
-        let d = first_minutes(a, left, minutes, n, table);
+    for left in (0..k).rev() {
+        let (a, d) = next_arrow(chart, firsts, nexts, left, minutes, state, table);
         end = run_walk::put_position(state, d as u32, end, out);
         minutes -= d;
         state = a.end;
@@ -100,22 +92,14 @@ fn follow(
 }
 
 // The walk of k steps and c minutes from s, as bytes.
-pub fn write_walk(
-    chart: &[u8],
-    n: usize,
-    m: usize,
-    c: usize,
-    k: u32,
-    s: usize,
-    table: &[u32],
-    out: &mut [u8],
-) -> usize
-    requires { Walkable chart.now n m c k s table.now out.old }
-    ensures { Appended 0 (run_bytes (walk_in chart.now n table.now k c s)) result
+pub fn write_walk(chart: Chart, c: usize, k: u32, s: usize, table: &[u32], out: &mut [u8]) -> usize
+    requires { Walkable chart.bytes.now chart.states chart.arrows c k s table.now out.old }
+    ensures { Appended 0
+        (run_bytes (walk_in chart.entry.bytes.now chart.entry.states table.now k c s)) result
         out.old out.new }
 {
-    let mut firsts = [0; STATES];
-    let mut nexts = [0; ARROWS];
-    arrow_links::link(chart, n, m, &mut firsts, &mut nexts);
-    follow(chart, n, m, &firsts, &nexts, c, k, s, table, out)
+    let mut firsts = [0; arrow_links::STATES];
+    let mut nexts = [0; arrow_links::ARROWS];
+    arrow_links::link(chart, &mut firsts, &mut nexts);
+    follow(chart, &firsts, &nexts, c, k, s, table, out)
 }

@@ -7,7 +7,7 @@ ghost use Rattle.model.specs.Marks.{mark};
 ghost use Rattle.chart.specs.Bytes.{label_word};
 ghost use Rattle.hints.specs.Values.{value_of};
 ghost use Rattle.fill.specs.Fill.{combine, passes_limit};
-ghost use Rattle.fill.specs.Written.{RowWritten};
+ghost use Rattle.fill.specs.Written.{RowWritten, WrittenBy};
 
 // A mark from the marks p and q of two operands.
 #[derive(Clone, Copy)]
@@ -42,7 +42,7 @@ fn passes_limit(above: bool, limit: u32, v: u32) -> bool
     v <= limit
 }
 
-// Row t from the rows of a and b.
+// Row t from the rows of a and b, which may be row t itself. So it is no `write_row`: it reads the marks that it writes.
 pub fn fill(connective: Connective, n: usize, t: usize, a: usize, b: usize, marks: &mut [u8])
     requires { (t * n + n ≤ length marks.old) × (a ≤ t) × (b ≤ t) }
     ensures { RowWritten n t (λ s. combine connective (mark n marks.old a s) (mark n marks.old b s))
@@ -51,12 +51,10 @@ pub fn fill(connective: Connective, n: usize, t: usize, a: usize, b: usize, mark
     let at = t * n;
     let left = a * n;
     let right = b * n;
-    let mut s = 0;
-    while s < n {
+    for s in 0..n {
         let p = marks[left + s] == 1;
         let q = marks[right + s] == 1;
         marks[at + s] = combined(connective, p, q) as u8;
-        s += 1;
     }
 }
 
@@ -64,14 +62,19 @@ pub fn fill(connective: Connective, n: usize, t: usize, a: usize, b: usize, mark
 pub fn all_are(v: u8, row: &[u8]) -> bool
     ensures { result ≡ true → (s : ℕ) → s < length row.now → get_or row.now s 0 ≡ v }
 {
-    let mut s = 0;
-    while s < row.len() {
-        if row[s] != v {
-            return false;
-        }
-        s += 1;
+    row.iter().all(|&x| x == v)
+}
+
+// Row t, as f says of each state.
+fn write_row<F: Fn(usize) -> bool>(n: usize, t: usize, f: F, marks: &mut [u8])
+    requires room { t * n + n ≤ length marks.old }
+    requires asked { (s : ℕ) → s < n → F.pre f s }
+    ensures { WrittenBy (t * n) n (F.post f) marks.old marks.new }
+{
+    let at = t * n;
+    for s in 0..n {
+        marks[at + s] = f(s) as u8;
     }
-    true
 }
 
 // Row t from label i.
@@ -80,13 +83,7 @@ pub fn fill_label(chart: &[u8], n: usize, i: usize, t: usize, marks: &mut [u8])
     ensures { RowWritten n t (λ s. eqb (label_word chart.now s / 2 ^ i % 2) 1)
         marks.old marks.new }
 {
-    let at = t * n;
-    let mut s = 0;
-    while s < n {
-        let w = chart::label_word(chart, s);
-        marks[at + s] = ((w >> i) % 2 == 1) as u8;
-        s += 1;
-    }
+    write_row(n, t, |s| (chart::label_word(chart, s) >> i) % 2 == 1, marks);
 }
 
 // Row t from the values of numbers: those above a limit, or those up to it.
@@ -95,10 +92,10 @@ pub fn fill_limit(above: bool, limit: u32, n: usize, t: usize, numbers: &[u32], 
     ensures { RowWritten n t (λ s. passes_limit above limit (value_of (num numbers.now s)))
         marks.old marks.new }
 {
-    let at = t * n;
-    let mut s = 0;
-    while s < n {
-        marks[at + s] = passes_limit(above, limit, hints::value(numbers[s])) as u8;
-        s += 1;
-    }
+    write_row(
+        n,
+        t,
+        |s| passes_limit(above, limit, hints::value(numbers[s])),
+        marks,
+    );
 }

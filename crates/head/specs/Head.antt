@@ -11,13 +11,17 @@ version s = get_or s 0 0
 abbrev pub stated_length : List ℕ → ℕ
 stated_length s = long s 1
 
--- under `least` bytes; version not 1; stated length not the real one
-abbrev pub head_rows : ℕ → ℕ → List ℕ → List Row
-head_rows number least s =
-    refuse number (whole (ltb (length s) least)) ∷
-    refuse (number + 1) (whole (not (eqb (version s) 1))) ∷
-    refuse (number + 2) (whole (not (eqb (stated_length s) (length s)))) ∷
+-- under `least` bytes; version not 1; stated length not the real one; each by its number
+abbrev pub faults_rows : (short versioned stated least : ℕ) → List ℕ → List Row
+faults_rows short versioned stated least s =
+    refuse short (whole (ltb (length s) least)) ∷
+    refuse versioned (whole (not (eqb (version s) 1))) ∷
+    refuse stated (whole (not (eqb (stated_length s) (length s)))) ∷
     []
+
+-- the three rows of a paper's table, from a number on
+abbrev pub head_rows : ℕ → ℕ → List ℕ → List Row
+head_rows number least s = faults_rows number (number + 1) (number + 2) least s
 
 -- a head of which none of these is true
 pub record Headed (least : ℕ) (s : List ℕ) : Type 0 where

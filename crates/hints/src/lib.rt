@@ -5,9 +5,10 @@
 
 ghost use Rattle.std.specs.Prelude.{◌≡◌, Bool, true, cond, ℕ, ◌<◌, length, eqb};
 ghost use Rattle.chart.specs.Bytes.{chart_of};
-ghost use Rattle.chart.specs.Shape.{Passed};
 ghost use Rattle.hints.specs.Circle.{Circles};
 ghost use Rattle.hints.specs.Values.{sided, value_of, tested_of, Open};
+
+use arrows::Chart;
 
 // Values are below it, and a side is worth it.
 pub const RADIX: u32 = 262144;
@@ -80,28 +81,25 @@ pub fn turned(x: u32) -> u32
 fn time_passes(passes: bool, most: u32) -> bool
     ensures { result ≡ cond (eqb most 0) passes true }
 {
-    if most != 0 {
-        return true;
-    }
-    passes
+    passes | (most != 0)
 }
 
 // The hints lead from r back to r, by so many arrows at most, through states whose numbers have no side, and time can
 // pass on the way. It is such a loop by minutes and by ticks.
-pub fn circles(chart: &[u8], n: usize, m: usize, most: usize, numbers: &[u32], r: usize) -> bool
-    requires { Passed chart.now n m × (length numbers.now ≡ n) × (r < n) }
-    ensures { (go : ℕ → Bool) → Open go numbers.now → Circles result (chart_of chart.now) go r }
+pub fn circles(chart: Chart, most: usize, numbers: &[u32], r: usize) -> bool
+    requires { (length numbers.now ≡ chart.states) × (r < chart.states) }
+    ensures { (go : ℕ → Bool) → Open go numbers.now →
+        Circles result (chart_of chart.entry.bytes.now) go r }
 {
     let mut at = r;
     let mut passes = false;
-    let mut k = 0;
-    while k < most {
+    for _ in 0..most {
         let x = numbers[at];
         let i = hint(x);
-        if m <= i {
+        if chart.arrows <= i {
             return false;
         }
-        let a = arrows::arrow(chart, n, i);
+        let a = chart.arrow(i);
         if a.start != at {
             return false;
         }
@@ -113,7 +111,6 @@ pub fn circles(chart: &[u8], n: usize, m: usize, most: usize, numbers: &[u32], r
         if at == r {
             return passes;
         }
-        k += 1;
     }
     false
 }

@@ -3,10 +3,11 @@
 
 ghost use Rattle.std.specs.Prelude.{◌≡◌, ◌+◌, ◌*◌, ◌≤◌, length};
 ghost use Rattle.model.specs.Marks.{mark};
-ghost use Rattle.chart.specs.Shape.{Passed};
 ghost use Rattle.ways.specs.Way.{highest, top};
 ghost use Rattle.initial.specs.Initial.{cap_of, initial_of, Chosen, Placed, Initially, one_of, Foreseen};
 ghost use Rattle.initial.specs.Filled.{Filled, Sured};
+
+use arrows::Chart;
 
 // What numbers start from, by p and q; minutes that fall are what they leave to the top.
 // Reach: 0 minutes at q, else the cap, through p. Goal: 1 at q, else 0, through p. Fail: 1 at p or q, else the cap,
@@ -19,7 +20,7 @@ pub enum Initial {
     Stay(u32),
 }
 
-// x where b holds, else y.
+// x where b holds, else y: a choice, and no paths for the code around it, nor for its proofs.
 fn either(b: bool, x: u32, y: u32) -> u32
     ensures { Chosen b x y result }
 {
@@ -74,6 +75,7 @@ fn four_of(initial: Initial) -> Four
 }
 
 // The one of four for the marks p and q.
+#[tactic(auto, unfolding(crate::specs::Initial::one_of))]
 fn one_of(four: Four, p: bool, q: bool) -> u32
     ensures { result ≡ one_of four p q }
 {
@@ -101,40 +103,36 @@ pub fn fill_numbers(
     let left = a * n;
     let right = b * n;
     let four = four_of(initial);
-    let mut s = 0;
-    while s < n {
+    for s in 0..n {
         let p = marks[left + s] == 1;
         let q = marks[right + s] == 1;
         numbers[s] = hints::anew(numbers[s], one_of(four, p, q));
-        s += 1;
     }
 }
 
 // The value of each state from which an arrow leads to where good does not hold becomes the top. A choice instead of a
 // test, since marks are data that no processor foretells.
-fn clear_each(chart: &[u8], n: usize, m: usize, good: &[u8], numbers: &mut [u32])
-    requires { Passed chart.now n m × (length good.now ≡ n) × (length numbers.old ≡ n) }
-    ensures { Sured chart.now n good.now numbers.old numbers.new }
+fn clear_each(chart: Chart, good: &[u8], numbers: &mut [u32])
+    requires { (length good.now ≡ chart.states) × (length numbers.old ≡ chart.states) }
+    ensures { Sured chart.entry.bytes.now chart.entry.states good.now numbers.old numbers.new }
 {
-    let mut i = 0;
-    while i < m {
-        let a = arrows::arrow(chart, n, i);
+    for i in 0..chart.arrows {
+        let a = chart.arrow(i);
         let start = a.start;
         let end = a.end;
         let x = numbers[start];
         let full = hints::retested(x, ways::TOP + hints::RADIX);
         numbers[start] = either(good[end] == 1, x, full);
-        i += 1;
     }
 }
 
 // The same: where good holds everywhere, nothing is to be done.
-pub fn clear_unsure(chart: &[u8], n: usize, m: usize, good: &[u8], numbers: &mut [u32])
-    requires { Passed chart.now n m × (length good.now ≡ n) × (length numbers.old ≡ n) }
-    ensures { Sured chart.now n good.now numbers.old numbers.new }
+pub fn clear_unsure(chart: Chart, good: &[u8], numbers: &mut [u32])
+    requires { (length good.now ≡ chart.states) × (length numbers.old ≡ chart.states) }
+    ensures { Sured chart.entry.bytes.now chart.entry.states good.now numbers.old numbers.new }
 {
     if fill::all_are(1, good) {
         return;
     }
-    clear_each(chart, n, m, good, numbers);
+    clear_each(chart, good, numbers);
 }

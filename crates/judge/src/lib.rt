@@ -2,24 +2,25 @@
 #![tactic(auto)]
 
 ghost use Rattle.std.specs.Prelude.{◌≡◌, [], ◌∷◌, ◌≤◌, length};
+ghost use Rattle.outcome.specs.Answer.{answer};
 ghost use Rattle.outcome.specs.Refusal.{first};
-ghost use Rattle.chart.specs.Shape.{Passed};
 ghost use Rattle.rule.specs.Refusals.{rule_refusal};
 ghost use Rattle.loops.specs.Refusal.{loop_row};
 ghost use Rattle.judge.specs.Judge.{own_rows, Promised};
 ghost use Rattle.judge.specs.Judged.{input_table, Judgeable, Judged};
 
-use outcome::Outcome;
+use arrows::Chart;
+use outcome::Refusal;
 
 // Row 63, where every until is counted.
-fn own_refusal(counting: bool, rule: &[u8]) -> Outcome
+fn own_refusal(counting: bool, rule: &[u8]) -> Result<(), Refusal>
     requires { (rule_refusal rule.now).number ≡ 0 }
-    ensures { result ≡ first (own_rows counting rule.now) }
+    ensures { answer result ≡ first (own_rows counting rule.now) }
 {
     if counting {
         return rule_refusals::bound_refusal(rule);
     }
-    outcome::accepted()
+    Ok(())
 }
 
 // Rows 1 to 18, and 63.
@@ -29,22 +30,13 @@ fn input_refusal(
     rule: &[u8],
     marks: &[u8],
     scratch: &[u32],
-) -> Outcome
-    ensures { result ≡ first (input_table counting chart.now rule.now
+) -> Result<(), Refusal>
+    ensures { answer result ≡ first (input_table counting chart.now rule.now
         marks.now scratch.now) }
 {
-    let of_chart = chart_refusals::chart_refusal(chart);
-    if of_chart.number != 0 {
-        return of_chart;
-    }
-    let of_rule = rule_refusals::rule_refusal(rule);
-    if of_rule.number != 0 {
-        return of_rule;
-    }
-    let own = own_refusal(counting, rule);
-    if own.number != 0 {
-        return own;
-    }
+    chart_refusals::chart_refusal(chart)?;
+    rule_refusals::rule_refusal(rule)?;
+    own_refusal(counting, rule)?;
     let n = chart::state_count(chart);
     let k = rule::node_count(rule);
     let minutely = rule_refusals::minutely(counting, rule);
@@ -53,34 +45,29 @@ fn input_refusal(
 }
 
 // Row 19, on the first n numbers.
-fn loop_row(chart: &[u8], n: usize, m: usize, numbers: &mut [u32]) -> Outcome
-    requires { Passed chart.now n m × (n ≤ length numbers.old) }
-    ensures { result ≡ first (loop_row chart.now ∷ []) }
+fn loop_row(chart: Chart, numbers: &mut [u32]) -> Result<(), Refusal>
+    requires { chart.states ≤ length numbers.old }
+    ensures { answer result ≡ first (loop_row chart.entry.bytes.now ∷ []) }
 {
-    loops::loop_refusal(chart, n, m, &mut numbers[..n])
+    loops::loop_refusal(chart, &mut numbers[..chart.states])
 }
 
 // Row 19; if it is not met every node is settled, from the last one down, by the hints that row 19 leaves.
 fn judged(
     counting: bool,
-    chart: &[u8],
-    n: usize,
-    m: usize,
+    chart: Chart,
     rule: &[u8],
     k: usize,
     marks: &mut [u8],
     numbers: &mut [u32],
-) -> Outcome
-    requires { Judgeable counting chart.now n m rule.now k marks.old numbers.old }
-    ensures { Judged chart.now n rule.now result marks.old marks.new }
+) -> Result<(), Refusal>
+    requires { Judgeable counting chart.bytes.now chart.states chart.arrows rule.now k marks.old numbers.old }
+    ensures { Judged chart.entry.bytes.now chart.entry.states rule.now (answer result) marks.old marks.new }
 {
-    let loops = loop_row(chart, n, m, numbers);
-    if loops.number != 0 {
-        return loops;
-    }
+    loop_row(chart, numbers)?;
     let last = k - 1;
-    settle::settle(counting, chart, n, m, rule, last, marks, numbers);
-    loops
+    settle::settle(counting, chart, rule, last, marks, numbers);
+    Ok(())
 }
 
 // Number and place of the first row that is met; on acceptance the marks of every node at every state.
@@ -90,21 +77,21 @@ pub fn judge(
     rule: &[u8],
     marks: &mut [u8],
     scratch: &mut [u32],
-) -> Outcome
+) -> Result<(), Refusal>
     ensures { Promised counting chart.now rule.now marks.old scratch.old
-        result marks.new scratch.new }
+        (answer result) marks.new scratch.new }
 {
-    let input = input_refusal(counting, chart, rule, marks, scratch);
-    if input.number != 0 {
-        return input;
-    }
-    let n = chart::state_count(chart);
-    let m = chart::arrow_count(chart);
+    input_refusal(counting, chart, rule, marks, scratch)?;
+    let chart = Chart {
+        bytes: chart,
+        states: chart::state_count(chart),
+        arrows: chart::arrow_count(chart),
+    };
     let k = rule::node_count(rule);
     let minutely = rule_refusals::minutely(counting, rule);
-    let used = nodes::numbers_for(minutely, n);
-    let outcome = judged(counting, chart, n, m, rule, k, marks, &mut scratch[..used]);
-    let zeros = room::scratch_size(minutely, n);
+    let used = nodes::numbers_for(minutely, chart.states);
+    let tested = judged(counting, chart, rule, k, marks, &mut scratch[..used]);
+    let zeros = room::scratch_size(minutely, chart.states);
     loops::clear(&mut scratch[..zeros]);
-    outcome
+    tested
 }

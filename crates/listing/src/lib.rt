@@ -23,10 +23,8 @@ fn put_marks(marks: &[u8], start: usize, n: usize, at: usize, out: &mut [u8]) ->
     ensures { Appended at (mark_line n marks.now start) result out.old out.new }
 {
     let mut end = at;
-    let mut s = 0;
-    while s < n {
-        end = append::put(mark_digit(marks[start + s]), end, out);
-        s += 1;
+    for byte in &marks[start..start + n] {
+        end = append::put(mark_digit(*byte), end, out);
     }
     end
 }
@@ -46,10 +44,8 @@ fn put_nodes(n: usize, k: usize, marks: &[u8], at: usize, out: &mut [u8]) -> usi
     ensures { Appended at (joined k (node_line n marks.now)) result out.old out.new }
 {
     let mut end = at;
-    let mut t = 0;
-    while t < k {
+    for t in 0..k {
         end = put_node(n, marks, t, end, out);
-        t += 1;
     }
     end
 }

@@ -1,4 +1,4 @@
--- Row 20: against the format of a map, and from what was tested of it.
+-- Row 20 against the format of a map.
 use mathlib.Core.Bool.{true, false}
 use mathlib.Core.List.{List, [], ◌∷◌}
 use mathlib.Core.Logic.{◌↔◌, ◌⊎◌, inl, inr}
@@ -34,27 +34,3 @@ format_iff p n =
           let h = f.head in
           ap whole (i.1 ((((h.enough, h.version_one), h.stated), f.whole), f.count)),
     )
-
--- ── From what was tested ──
-
-module _ (p : List ℕ) (n : ℕ) where
-  pub form_refuses : {r : Outcome} → (MapFormat p n → ⊥) → r ≡ refusal 20 0 → r ≡ first (form_row p n ∷ [])
-  form_refuses {r} h e = turn (true_or_false (no_map p n))
-    where
-      turn : (no_map p n ≡ true) ⊎ (no_map p n ≡ false) → r ≡ first (form_row p n ∷ [])
-      turn (inl w) = e ∙ sym (first_met 20 (whole (no_map p n)) 0 [] (ap whole w))
-      turn (inr w) = absurd (h ((format_iff p n).0 (ap whole w)))
-
-  pub form_passes : {r : Outcome} → MapFormat p n → r ≡ success → r ≡ first (form_row p n ∷ [])
-  unfolding first
-  form_passes f e = e ∙ sym (first_passed 20 (whole (no_map p n)) [] ((format_iff p n).1 f))
-
-  module _ {h : Outcome} (e : h ≡ first (head_rows 20 7 p)) where
-    pub unheaded : (h.number ≡ 0 → ⊥) → MapFormat p n → ⊥
-    unheaded x f =
-        x (ap (λ (o : Outcome). o.number) e ∙ (zero_iff (head_rows 20 7 p) tt).1 ((head_iff 20 7 p).1 f.head))
-
-    pub formed : {c : ℕ} → h.number ≡ 0 → c ≡ entry_count p → length p ≡ 7 + 2 * c → c ≡ n → MapFormat p n
-    formed z f g k =
-        let head = (head_iff 20 7 p).0 ((zero_iff (head_rows 20 7 p) tt).0 (part_zero (head_rows 20 7 p) e z)) in
-        record { head = head; whole = g ∙ ap (λ c. 7 + 2 * c) f; count = sym f ∙ k }

@@ -2,11 +2,12 @@
 #![tactic(auto)]
 
 ghost use Rattle.std.specs.Prelude.{◌≡◌, [], ◌∷◌, ◌+◌, ◌*◌, ◌≤◌, ◌<◌, length};
+ghost use Rattle.outcome.specs.Answer.{answer};
 ghost use Rattle.outcome.specs.Refusal.{first};
 ghost use Rattle.map.specs.Bytes.{entry};
 ghost use Rattle.map.specs.Refusals.{form_row, entry_row};
 
-use outcome::Outcome;
+use outcome::{Fault, Refusal};
 
 // The overview state that detail state d stands for.
 pub fn entry_at(map: &[u8], d: usize) -> usize
@@ -17,34 +18,27 @@ pub fn entry_at(map: &[u8], d: usize) -> usize
 }
 
 // Row 20.
-pub fn form_refusal(map: &[u8], n: usize) -> Outcome
-    ensures { result ≡ first (form_row map.now n ∷ []) }
+#[tactic(auto, using(std::proofs::lemmas::Bool::Decides::nat_tests), unfolding(outcome::specs::Refusal::first, crate::specs::Refusals::no_map))]
+pub fn form_refusal(map: &[u8], n: usize) -> Result<(), Refusal>
+    ensures { answer result ≡ first (form_row map.now n ∷ []) }
 {
-    let head = head::head_refusal(map, 7, outcome::NO_MAP);
-    if head.number != 0 {
-        return outcome::refused(outcome::NO_MAP, 0);
-    }
+    head::head_refusal(map, 7, Fault::NoMap, Fault::NoMap, Fault::NoMap)?;
     let count = words::be16(map, 5) as usize;
-    if map.len() != 7 + 2 * count {
-        return outcome::refused(outcome::NO_MAP, 0);
+    if map.len() != 7 + 2 * count || count != n {
+        return Err(Fault::NoMap.at(0));
     }
-    if count != n {
-        return outcome::refused(outcome::NO_MAP, 0);
-    }
-    outcome::accepted()
+    Ok(())
 }
 
 // Row 21.
-pub fn entry_refusal(map: &[u8], n: usize, k: usize) -> Outcome
+pub fn entry_refusal(map: &[u8], n: usize, k: usize) -> Result<(), Refusal>
     requires { (7 + 2 * n ≤ length map.now) × (n ≤ 256) }
-    ensures { result ≡ first (entry_row map.now n k ∷ []) }
+    ensures { answer result ≡ first (entry_row map.now n k ∷ []) }
 {
-    let mut d = 0;
-    while d < n {
+    for d in 0..n {
         if k <= entry_at(map, d) {
-            return outcome::refused(outcome::NO_OVERVIEW_STATE, d as u32);
+            return Err(Fault::NoOverviewState.at(d));
         }
-        d += 1;
     }
-    outcome::accepted()
+    Ok(())
 }

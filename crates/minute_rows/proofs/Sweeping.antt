@@ -65,26 +65,27 @@ swept_none =
     }
 
 module _
-    {n minute from to i : ℕ}
+    {n minute from to i next : ℕ}
     {words beyond old mid : List ℕ}
     {told : Bool}
     (ws : Words n minute from to words beyond old)
     (first : from ≤ i)
     (last : i < to)
+    (on : next ≡ i + 1)
     (swept : Swept n minute from i words beyond told old mid) where
   abbrev a : Arrow
   a = move_of (num words i)
 
   -- one arrow more
   abbrev SweptOn : Bool → List ℕ → Type 0
-  SweptOn now new = Swept n minute from (i + 1) words beyond now old new
+  SweptOn now new = Swept n minute from next words beyond now old new
 
   -- for the arrows before i and for i
-  up_to : (P : ℕ → Type 0) → ((j : ℕ) → from ≤ j → j < i → P j) → P i → (j : ℕ) → from ≤ j → j < i + 1 → P j
+  up_to : (P : ℕ → Type 0) → ((j : ℕ) → from ≤ j → j < i → P j) → P i → (j : ℕ) → from ≤ j → j < next → P j
   up_to P before here j l h =
       by_cases (dec_le (suc j) i) (λ k. before j l k) (λ k. let z : i ≡ j = omega arith in subst P z here)
 
-  word : (j : ℕ) → from ≤ j → j < i + 1 → Word n minute (move_of (num words j)) beyond mid
+  word : (j : ℕ) → from ≤ j → j < next → Word n minute (move_of (num words j)) beyond mid
   word j l h = word_still swept.kept.size (ws.arrows j l (omega arith))
 
   swept_still : {r : Bool} {new : List ℕ} → Still n minute a beyond r mid new → SweptOn told new
@@ -113,7 +114,7 @@ module _
       low : Word n minute a beyond mid
       low = word i first (omega arith)
 
-      kept : Kept n minute from (i + 1) words beyond mid new
+      kept : Kept n minute from next words beyond mid new
       kept = kept_followed first (omega arith) low f
 
       made : answer n beyond new (suc minute) a.start ≡ true
@@ -121,7 +122,7 @@ module _
           subst (λ l. answer n beyond l (suc minute) a.start ≡ true) (sym c.is)
           (answer_added n minute a.start beyond mid (omega (arith, low.start, low.room)))
 
-      later : (j : ℕ) → from ≤ j → j < i + 1 → 1 ≤ (move_of (num words j)).fewest → Tried n minute words beyond new j
+      later : (j : ℕ) → from ≤ j → j < next → 1 ≤ (move_of (num words j)).fewest → Tried n minute words beyond new j
       later =
           up_to (λ j. 1 ≤ (move_of (num words j)).fewest → Tried n minute words beyond new j)
           (λ j l h e. tried_later kept j (word j l (omega arith)) e (swept.tried j l h (inr e))) (λ e on. made)
@@ -138,14 +139,18 @@ module _
 
   -- what is new is told from there on
   pub swept_followed :
-      {r now : Bool} {new : List ℕ} → Followed n minute a beyond r mid new →
+      {word : ℕ} {r now : Bool} {new : List ℕ} → word ≡ num words i →
+      Followed n minute (move_of word) beyond r mid new →
       ((r ≡ true) × (now ≡ true)) ⊎ ((r ≡ false) × (now ≡ told)) → SweptOn now new
-  swept_followed {r} {now} {new} f came =
+  swept_followed {r = r} {now} {new} is f came =
       ⊎_elim (λ still. tells false still.result (swept_still still))
-      (λ c. tells true c.result (swept_new f c)) (followed_cases f)
+      (λ c. tells true c.result (swept_new by c)) (followed_cases by)
     where
+      by : Followed n minute a beyond r mid new
+      by = subst (λ w. Followed n minute (move_of w) beyond r mid new) is f
+
       tells : (b : Bool) → r ≡ b → SweptOn (cond b true told) new → SweptOn now new
       tells b e =
-          let is : now ≡ cond b true told =
+          let same : now ≡ cond b true told =
           ⊎_elim (λ w. rw (sym e ∙ w.0) w.1) (λ w. rw (sym e ∙ w.0) w.1) came in
-          subst (λ b. SweptOn b new) (sym is)
+          subst (λ b. SweptOn b new) (sym same)

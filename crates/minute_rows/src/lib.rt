@@ -12,11 +12,12 @@ ghost use Rattle.minute_rows.specs.Numbers.{last_below, bare, end_only, task_in,
 ghost use Rattle.minute_rows.specs.Filled.{RowsFilled, InRow, Rows, Word, Words, Ready, Steady, MinuteReady};
 ghost use Rattle.minute_rows.specs.Filled.{row_begun, leads_on, Followed, Swept, Closed};
 
+use arrows::Chart;
 use moves::{Ends, Move};
 
 // When a bound is met, by the minutes that are left of it: always, as at most is; with none left, as exactly is; or
 // only after, as at least is.
-#[derive(Clone, Copy)]
+#[derive(Clone, Copy, PartialEq, Eq)]
 pub enum Met {
     Always,
     AtEnd,
@@ -37,17 +38,6 @@ fn met_in(met: Met, minute: usize) -> bool
     match met {
         Met::Always => true,
         Met::AtEnd => minute == 0,
-        Met::Never => false,
-    }
-}
-
-// Whether the bound is met with no minute left alone.
-fn is_at_end(met: Met) -> bool
-    ensures { result ≡ end_only met }
-{
-    match met {
-        Met::Always => false,
-        Met::AtEnd => true,
         Met::Never => false,
     }
 }
@@ -75,16 +65,6 @@ fn below(n: usize, minute: usize, s: usize, beyond: &[u8], numbers: &[u32]) -> u
     numbers[row + s]
 }
 
-// The number that a state begins a row with.
-fn begun(stops: bool, made: u32, below: u32) -> u32
-    ensures { result ≡ cond stops made below }
-{
-    if stops {
-        return made;
-    }
-    below
-}
-
 // A row begins with the states that make it at once, where the bound is met or not.
 fn begin(
     all: bool,
@@ -103,11 +83,13 @@ fn begin(
 {
     let at = minute * n;
     let made = minute as u32 + 2;
-    let mut s = 0;
-    while s < n {
+    for s in 0..n {
         let last = below(n, minute, s, beyond, numbers);
-        numbers[at + s] = begun(stops(all, met, p[s] == 1, q[s] == 1), made, last);
-        s += 1;
+        numbers[at + s] = if stops(all, met, p[s] == 1, q[s] == 1) {
+            made
+        } else {
+            last
+        };
     }
 }
 
@@ -148,7 +130,9 @@ fn follow(word: u64, n: usize, minute: usize, beyond: &[u8], numbers: &mut [u32]
     false
 }
 
-// The arrows of some words are followed, one after another. Whether anything is new.
+// The arrows of some words are followed, one after another. Whether anything is new. Its twin of
+// `exact_table` stays: one sweep for both would take what a step asks and promises as ghost members,
+// and each proof would keep all that it has.
 fn sweep(
     from: usize,
     to: usize,
@@ -163,12 +147,11 @@ fn sweep(
         numbers.old numbers.new }
 {
     let mut new = false;
-    let mut i = from;
-    while i < to {
-        if follow(words[i], n, minute, beyond, numbers) {
+    for word in &words[from..to] {
+        // `new |= ..` takes more instructions
+        if follow(*word, n, minute, beyond, numbers) {
             new = true;
         }
-        i += 1;
     }
     new
 }
@@ -185,8 +168,7 @@ fn rounds(front: usize, words: &[u64], n: usize, minute: usize, beyond: &[u8], n
 // The row with so many minutes left, after those with fewer.
 pub fn fill_row(
     asked: Asked,
-    chart: &[u8],
-    n: usize,
+    chart: Chart,
     minute: usize,
     ends: Ends,
     words: &[u64],
@@ -195,15 +177,23 @@ pub fn fill_row(
     beyond: &[u8],
     numbers: &mut [u32],
 )
-    requires { MinuteReady asked chart.now n minute ends words.now p.now q.now beyond.now numbers.old }
-    ensures { RowsFilled (chart_of chart.now) n
+    requires { MinuteReady asked chart.bytes.now chart.states minute ends words.now p.now q.now
+        beyond.now numbers.old }
+    ensures { RowsFilled (chart_of chart.entry.bytes.now) chart.entry.states
         (task_in asked p.now q.now beyond.now) (suc minute) numbers.new }
 {
-    let kind = asked.met;
-    let met = met_in(kind, minute);
-    begin(asked.all, met, n, minute, p, q, beyond, numbers);
-    sweep(ends.back, moves::WORDS, words, n, minute, beyond, numbers);
-    rounds(ends.front, words, n, minute, beyond, numbers);
+    let met = met_in(asked.met, minute);
+    begin(asked.all, met, chart.states, minute, p, q, beyond, numbers);
+    sweep(
+        ends.back,
+        moves::WORDS,
+        words,
+        chart.states,
+        minute,
+        beyond,
+        numbers,
+    );
+    rounds(ends.front, words, chart.states, minute, beyond, numbers);
 }
 
 // The rows from one on up to so many, with each of which the bound is met, or with none. Their arrows are collected once.
@@ -211,27 +201,24 @@ fn fill_rows_from(
     asked: Asked,
     from: usize,
     count: usize,
-    chart: &[u8],
-    n: usize,
-    m: usize,
+    chart: Chart,
     p: &[u8],
     q: &[u8],
     beyond: &[u8],
     numbers: &mut [u32],
 )
-    requires ready { Ready count chart.now n m p.now q.now beyond.now numbers.old }
-    requires steady { Steady asked from count chart.now n p.now q.now beyond.now numbers.old }
-    ensures { RowsFilled (chart_of chart.now) n
+    requires ready { Ready count chart.bytes.now chart.states chart.arrows p.now q.now beyond.now
+        numbers.old }
+    requires steady { Steady asked from count chart.bytes.now chart.states p.now q.now beyond.now
+        numbers.old }
+    ensures { RowsFilled (chart_of chart.entry.bytes.now) chart.entry.states
         (task_in asked p.now q.now beyond.now) count numbers.new }
 {
     let mut words = [0; moves::WORDS];
-    let kind = asked.met;
-    let met = met_in(kind, from);
-    let ends = moves::collect(met, chart, n, m, p, q, &mut words);
-    let mut minute = from;
-    while minute < count {
-        fill_row(asked, chart, n, minute, ends, &words, p, q, beyond, numbers);
-        minute += 1;
+    let met = met_in(asked.met, from);
+    let ends = moves::collect(met, chart, p, q, &mut words);
+    for minute in from..count {
+        fill_row(asked, chart, minute, ends, &words, p, q, beyond, numbers);
     }
 }
 
@@ -239,23 +226,21 @@ fn fill_rows_from(
 pub fn fill_rows(
     asked: Asked,
     count: usize,
-    chart: &[u8],
-    n: usize,
-    m: usize,
+    chart: Chart,
     p: &[u8],
     q: &[u8],
     beyond: &[u8],
     numbers: &mut [u32],
 )
-    requires { Ready count chart.now n m p.now q.now beyond.now numbers.old }
-    ensures { RowsFilled (chart_of chart.now) n
+    requires { Ready count chart.bytes.now chart.states chart.arrows p.now q.now beyond.now
+        numbers.old }
+    ensures { RowsFilled (chart_of chart.entry.bytes.now) chart.entry.states
         (task_in asked p.now q.now beyond.now) count numbers.new }
 {
-    let kind = asked.met;
-    if is_at_end(kind) {
-        fill_rows_from(asked, 0, 1, chart, n, m, p, q, beyond, numbers);
-        fill_rows_from(asked, 1, count, chart, n, m, p, q, beyond, numbers);
+    if asked.met == Met::AtEnd {
+        fill_rows_from(asked, 0, 1, chart, p, q, beyond, numbers);
+        fill_rows_from(asked, 1, count, chart, p, q, beyond, numbers);
         return;
     }
-    fill_rows_from(asked, 0, count, chart, n, m, p, q, beyond, numbers);
+    fill_rows_from(asked, 0, count, chart, p, q, beyond, numbers);
 }

@@ -1,3 +1,3 @@
-pub mod Packing
+pub mod Part
 pub mod Collecting
 pub mod Turns

@@ -3,21 +3,18 @@
 // down.
 #![tactic(auto)]
 
-ghost use Rattle.std.specs.Prelude.{◌≡◌, ◌≤◌, ◌<◌, min, length};
+ghost use Rattle.std.specs.Prelude.{◌≡◌, ◌≤◌, ◌<◌, length};
 ghost use Rattle.chart.specs.Bytes.{arrow_of};
-ghost use Rattle.chart.specs.Shape.{Passed};
 ghost use Rattle.arrows.specs.Read.{Low};
 ghost use Rattle.arrow_links.specs.Linked.{Linked};
 ghost use Rattle.moves.specs.Moves.{capped, move_of, arrow_by, is_open, open_in, WithArrow, Collectable, Collected};
 ghost use Rattle.moves.specs.Turns.{Ready, WithState};
 
+use arrows::Chart;
 use chart::ArrowWords;
 
-// The most states of a chart.
-const STATES: usize = 256;
-
-// The most arrows of a chart.
-pub const WORDS: usize = 2048;
+// A word for each of the most arrows of a chart.
+pub const WORDS: usize = arrow_links::ARROWS;
 
 // More minutes than are ever left.
 const LONG: u32 = 256;
@@ -45,23 +42,14 @@ pub fn is_open(met: bool, p: bool, q: bool) -> bool
     p & !(met & q)
 }
 
-fn capped_minutes(minutes: u32) -> u64
-    ensures { result ≡ min 256 minutes }
-{
-    if LONG < minutes {
-        return LONG as u64;
-    }
-    minutes as u64
-}
-
 // The word of an arrow: from below start and end of 8 bits, fewest and most of 9.
 fn packed(a: ArrowWords) -> u64
     requires { Low a }
     ensures { move_of result ≡ capped (arrow_of a) }
 {
-    let fewest = capped_minutes(a.fewest);
-    let most = capped_minutes(a.most);
-    a.start as u64 + 256 * (a.end as u64) + 65536 * fewest + 33554432 * most
+    let fewest = a.fewest.min(LONG);
+    let most = a.most.min(LONG);
+    a.start as u64 + 256 * (a.end as u64) + 65536 * (fewest as u64) + 33554432 * (most as u64)
 }
 
 // The arrow of a word.
@@ -98,23 +86,21 @@ fn with_arrow(a: ArrowWords, ends: Ends, words: &mut [u64]) -> Ends
 
 // The words with the arrows of one state more, from its lowest on.
 fn with_state(
-    chart: &[u8],
-    n: usize,
-    m: usize,
+    chart: Chart,
     firsts: &[u32],
     nexts: &[u32],
     s: usize,
     ends: Ends,
     words: &mut [u64],
 ) -> Ends
-    requires { Passed chart.now n m × Linked chart.now n m 0 firsts.now nexts.now × (s < n) ×
-        Ready chart.now s ends words.old }
-    ensures { WithState chart.now s ends result words.old words.new }
+    requires { Linked chart.bytes.now chart.states chart.arrows 0 firsts.now nexts.now
+        × (s < chart.states) × Ready chart.bytes.now s ends words.old }
+    ensures { WithState chart.entry.bytes.now s ends result words.old words.new }
 {
     let mut grown = ends;
     let mut i = firsts[s] as usize;
-    while i < m {
-        let a = arrows::arrow(chart, n, i);
+    while i < chart.arrows {
+        let a = chart.arrow(i);
         grown = with_arrow(a, grown, words);
         i = nexts[i] as usize;
     }
@@ -123,32 +109,21 @@ fn with_state(
 
 // The arrows from states where the until is open, by the rows p and q of its operands; state by state, since the
 // sweeps over the words are faster where arrows from one state stand together.
-pub fn collect(
-    met: bool,
-    chart: &[u8],
-    n: usize,
-    m: usize,
-    p: &[u8],
-    q: &[u8],
-    words: &mut [u64],
-) -> Ends
-    requires { Collectable chart.now n m p.now q.now words.old }
-    ensures { Collected chart.now (open_in met p.now q.now) result
-        words.new }
+pub fn collect(met: bool, chart: Chart, p: &[u8], q: &[u8], words: &mut [u64]) -> Ends
+    requires { Collectable chart.bytes.now chart.states chart.arrows p.now q.now words.old }
+    ensures { Collected chart.entry.bytes.now (open_in met p.now q.now) result words.new }
 {
-    let mut firsts = [0; STATES];
-    let mut nexts = [0; WORDS];
-    arrow_links::link(chart, n, m, &mut firsts, &mut nexts);
+    let mut firsts = [0; arrow_links::STATES];
+    let mut nexts = [0; arrow_links::ARROWS];
+    arrow_links::link(chart, &mut firsts, &mut nexts);
     let mut ends = Ends {
         front: 0,
         back: WORDS,
     };
-    let mut s = 0;
-    while s < n {
+    for s in 0..chart.states {
         if is_open(met, p[s] == 1, q[s] == 1) {
-            ends = with_state(chart, n, m, &firsts, &nexts, s, ends, words);
+            ends = with_state(chart, &firsts, &nexts, s, ends, words);
         }
-        s += 1;
     }
     ends
 }

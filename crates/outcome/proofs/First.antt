@@ -5,7 +5,11 @@ use mathlib.Core.List.{List, [], ◌∷◌, ◌++◌}
 use mathlib.Core.Option.{Option, none, some}
 use Prim.Native.Nat.{ℕ, zero, suc, ◌<◌}
 use native.Mathlib.Omega.{arith}
+use Rattle.outcome.specs.declared.Fault.{Fault}
+use Rattle.outcome.specs.declared.Fault.TheVariants.{ChartShort, ChartVersion, ChartStated, StateCount, ArrowCount, ChartLength, NoSuchState, EmptySlot, NoArrowOut, RuleShort, RuleVersion, RuleStated, NodeCount, Malformed, NotLower, NotUsedOnce, MarksTable, Scratch, NoTimedLoop, NoMap, NoOverviewState, LabelsDiffer, NotCovered, NotShowable, TableScratch, NoRunFits, LongBound, NotAText, TooMuch, OutputShort}
 use Rattle.outcome.specs.declared.Outcome.{Outcome}
+use Rattle.outcome.specs.declared.Refusal.{Refusal}
+use Rattle.outcome.specs.Answer.{number_of, told}
 use Rattle.outcome.specs.Refusal.{Row, row, refuse, first, outcome, refusal, success}
 use Rattle.outcome.specs.Met.{Unmet, end, passed, FirstMet}
 
@@ -77,6 +81,46 @@ pub part_passes :
     (xs ys : List Row) {r x : Outcome} → Numbered xs → r ≡ first xs → r.number ≡ 0 → x ≡ first ys →
     x ≡ first (xs ++ ys)
 part_passes xs ys h e z f = f ∙ sym (unmet_first ys (zero_unmet xs h (part_zero xs e z)))
+
+-- no row has the number of success
+pub fault_number : (f : Fault) → number_of f ≡ 0 → ⊥
+fault_number ChartShort e = omega arith
+fault_number ChartVersion e = omega arith
+fault_number ChartStated e = omega arith
+fault_number StateCount e = omega arith
+fault_number ArrowCount e = omega arith
+fault_number ChartLength e = omega arith
+fault_number NoSuchState e = omega arith
+fault_number EmptySlot e = omega arith
+fault_number NoArrowOut e = omega arith
+fault_number RuleShort e = omega arith
+fault_number RuleVersion e = omega arith
+fault_number RuleStated e = omega arith
+fault_number NodeCount e = omega arith
+fault_number Malformed e = omega arith
+fault_number NotLower e = omega arith
+fault_number NotUsedOnce e = omega arith
+fault_number MarksTable e = omega arith
+fault_number Scratch e = omega arith
+fault_number NoTimedLoop e = omega arith
+fault_number NoMap e = omega arith
+fault_number NoOverviewState e = omega arith
+fault_number LabelsDiffer e = omega arith
+fault_number NotCovered e = omega arith
+fault_number NotShowable e = omega arith
+fault_number TableScratch e = omega arith
+fault_number NoRunFits e = omega arith
+fault_number LongBound e = omega arith
+fault_number NotAText e = omega arith
+fault_number TooMuch e = omega arith
+fault_number OutputShort e = omega arith
+
+-- the same where the first part answers by a Result: what it refuses with stands, and the rest is tested if it passes
+pub err_part : (xs ys : List Row) (r : Refusal) → told r ≡ first xs → told r ≡ first (xs ++ ys)
+err_part xs ys r e = part_refuses xs ys e (fault_number r.fault)
+
+pub ok_part : (xs ys : List Row) {x : Outcome} → Numbered xs → success ≡ first xs → x ≡ first ys → x ≡ first (xs ++ ys)
+ok_part xs ys h e f = part_passes xs ys h e refl f
 
 -- ── Which row is the answer ──
 

@@ -1,3 +1,4 @@
+pub mod Answer
 pub mod Entry
 pub mod Refusal
 pub mod Met

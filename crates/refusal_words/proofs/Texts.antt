@@ -14,7 +14,7 @@ use Rattle.refusal_words.specs.Sentences.{papers, paper_of}
 silence : (which : ℕ) → which < 2 → get_or (pair silent) which [] ≡ []
 silence zero l = refl
 silence (suc zero) l = refl
-silence (suc (suc which)) l = absurd (let z : ⊥ = omega arith in z)
+silence (suc (suc which)) l = absurd (omega arith)
 
 -- two texts a row: by induction on the rows
 text_at :

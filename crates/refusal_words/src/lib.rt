@@ -46,23 +46,16 @@ const ROWS: usize = 30;
 fn row_of(number: u32) -> usize
     ensures { result ≡ row_of number }
 {
-    if number < 1 {
-        return ROWS;
+    match number {
+        1..=23 => number as usize - 1,
+        // 60 follows 23.
+        60..=66 => number as usize - 37,
+        _ => ROWS,
     }
-    if number < 24 {
-        return number as usize - 1;
-    }
-    if number < 60 {
-        return ROWS;
-    }
-    // 60 follows 23.
-    if number < 67 {
-        return number as usize - 37;
-    }
-    ROWS
 }
 
 // Line i of the list.
+#[tactic(auto, unfolding(crate::specs::Sentences::listed, lines::specs::Line::on_lines))]
 fn put_listed(i: usize, at: usize, out: &mut [u8]) -> usize
     requires { Room at (line i listed) out.old }
     ensures { Appended at (line i listed) result out.old out.new }
@@ -76,6 +69,7 @@ pub const COUNTS: usize = 0;
 pub const SENTENCE: usize = 1;
 
 // One of the two; nothing of a number that no call answers.
+#[tactic(auto, using(crate::proofs::Rows::row_small, crate::proofs::Texts::text_line))]
 pub fn put_text(number: u32, which: usize, at: usize, out: &mut [u8]) -> usize
     requires { (which < 2) × Room at (text_of number which) out.old }
     ensures { Appended at (text_of number which) result out.old out.new }

@@ -36,7 +36,7 @@ module _
         same = refl;
         after = omega arith;
         inside = omega (arith, e);
-        stops = λ l. absurd (let z : ⊥ = omega (arith, e, l) in z);
+        stops = λ l. absurd (omega (arith, e, l));
         few = h;
       })
   further_law (suc left) n i e h = turn (further_law left) (grows most n (get_or t i 0)) refl

@@ -3,7 +3,7 @@
 
 ghost use Rattle.std.specs.Prelude.{◌≡◌, true, ◌-◌, ◌≤◌, ◌<◌, length, drop};
 ghost use Rattle.rule_grammar.specs.Machine.{grows as Machine·grows};
-ghost use Rattle.rule_numbers.specs.Byte.{byte_is};
+ghost use Rattle.rule_numbers.specs.Byte.{byte_is, behind};
 ghost use Rattle.rule_numbers.specs.Number.{further, number_from};
 
 #[derive(Clone, Copy)]
@@ -15,10 +15,18 @@ pub struct Number {
 pub fn stands(text: &[u8], i: usize, b: u8) -> bool
     ensures { (result ≡ byte_is text.now i b) × (result ≡ true → i < length text.now) }
 {
-    if i < text.len() {
-        return text[i] == b;
+    text.get(i) == Some(&b)
+}
+
+// The place behind byte b, which stands at place i; i itself where it does not.
+pub fn behind(text: &[u8], i: usize, b: u8) -> Result<usize, usize>
+    ensures { result ≡ behind text.now i b }
+{
+    if stands(text, i, b) {
+        Ok(i + 1)
+    } else {
+        Err(i)
     }
-    false
 }
 
 // A digit's own number.
@@ -34,43 +42,39 @@ fn grows(most: u32, n: u32, b: u8) -> bool
     requires { n ≤ 65535 }
     ensures { result ≡ Machine·grows most n b }
 {
-    if decimal::is_digit(b) {
-        if 0 < n {
-            return n * 10 + digit_value(b) <= most;
-        }
-    }
-    false
+    decimal::is_digit(b) && 0 < n && n * 10 + digit_value(b) <= most
 }
 
 // The digits from place i on that the number n may have behind it.
+#[tactic(auto, using(crate::proofs::Further::digit_by_digit))]
 fn further_digits(text: &[u8], most: u32, n: u32, i: usize) -> Number
     requires { (n ≤ most) × (most ≤ 65535) × (i ≤ length text.now) }
     ensures { result ≡ further most n (drop i text.now) i }
 {
     let mut value = n;
-    let mut end = i;
-    while end < text.len() {
+    for end in i..text.len() {
         let b = text[end];
-        if grows(most, value, b) {
-            value = value * 10 + digit_value(b);
-            end += 1;
-        } else {
+        if !grows(most, value, b) {
             return Number { value, end };
         }
+        value = value * 10 + digit_value(b);
     }
-    Number { value, end }
+    Number {
+        value,
+        end: text.len(),
+    }
 }
 
-// The number that starts at place i, and ends there if no digit stands there.
-pub fn number_from(text: &[u8], most: u32, i: usize) -> Number
+// The number that starts at place i, if a digit stands there.
+#[tactic(auto, unfolding(crate::specs::Number::number_from))]
+pub fn number_from(text: &[u8], most: u32, i: usize) -> Option<Number>
     requires { (9 ≤ most) × (most ≤ 65535) × (i ≤ length text.now) }
     ensures { result ≡ number_from most text.now i }
 {
-    if i < text.len() {
-        let b = text[i];
-        if decimal::is_digit(b) {
-            return further_digits(text, most, digit_value(b), i + 1);
-        }
+    let first = *text.get(i)?;
+    if decimal::is_digit(first) {
+        Some(further_digits(text, most, digit_value(first), i + 1))
+    } else {
+        None
     }
-    Number { value: 0, end: i }
 }

@@ -20,7 +20,7 @@ use Rattle.rule.specs.Form.{form_of}
 use Rattle.rule.specs.Formula.{bound_of, formula_at, formula_of}
 use Rattle.rule.specs.Refusals.{malformed, rule_table, rule_refusal}
 use Rattle.rule.specs.declared.NodeWords.{NodeWords}
-use Rattle.rule.proofs.Operation.{form_of_lem}
+use Rattle.rule.proofs.FormOf.{form_of_lem}
 use Rattle.rule.proofs.Accepted.{AcceptedRule, accepted, known, lower_a, lower_b}
 use Rattle.rule.proofs.Tree.{formula_at_lem}
 use Rattle.rule_bytes.specs.RuleBytes.{nodes, node_bytes, kind_of, limit_of, joined, nodes_from, rule_bytes}

@@ -122,9 +122,9 @@ module _ (t : List ℕ) (s : Spot) (stack all : List ℕ) where
       where
         turn : Around → Outermost
         turn (outer d x) = x
-        turn (under d e x) = absurd (let y : ⊥ = omega (arith, d, z) in y)
-        turn (before d e g x) = absurd (let y : ⊥ = omega (arith, d, z) in y)
-        turn (after d e x) = absurd (let y : ⊥ = omega (arith, d, z) in y)
+        turn (under d e x) = absurd (omega (arith, d, z))
+        turn (before d e g x) = absurd (omega (arith, d, z))
+        turn (after d e x) = absurd (omega (arith, d, z))
 
     pub negation : ¬ (s.depth ≡ 0) → tag ≡ 2 → Negated
     negation z two = turn (around_of h)
@@ -132,8 +132,8 @@ module _ (t : List ℕ) (s : Spot) (stack all : List ℕ) where
         turn : Around → Negated
         turn (outer d x) = absurd (z d)
         turn (under d e x) = x
-        turn (before d e g x) = absurd (let y : ⊥ = omega (arith, e, two) in y)
-        turn (after d e x) = absurd (let y : ⊥ = omega (arith, e, two) in y)
+        turn (before d e g x) = absurd (omega (arith, e, two))
+        turn (after d e x) = absurd (omega (arith, e, two))
 
     pub first_of_two : ¬ (s.depth ≡ 0) → ¬ (tag ≡ 2) → tag < 8 → First × (tag ≤ 6)
     first_of_two z two low = turn (around_of h)
@@ -142,7 +142,7 @@ module _ (t : List ℕ) (s : Spot) (stack all : List ℕ) where
         turn (outer d x) = absurd (z d)
         turn (under d e x) = absurd (two e)
         turn (before d e g x) = (x, g)
-        turn (after d e x) = absurd (let y : ⊥ = omega (arith, e, low) in y)
+        turn (after d e x) = absurd (omega (arith, e, low))
 
     pub second_of_two : ¬ (s.depth ≡ 0) → ¬ (tag ≡ 2) → 8 ≤ tag → Second × (4 ≤ s.depth)
     second_of_two z two high = turn (around_of h)
@@ -150,7 +150,7 @@ module _ (t : List ℕ) (s : Spot) (stack all : List ℕ) where
         turn : Around → Second × (4 ≤ s.depth)
         turn (outer d x) = absurd (z d)
         turn (under d e x) = absurd (two e)
-        turn (before d e g x) = absurd (let y : ⊥ = omega (arith, g, high) in y)
+        turn (before d e g x) = absurd (omega (arith, g, high))
         turn (after d e x) = (x, d)
 
     -- a node was written

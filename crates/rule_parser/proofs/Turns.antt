@@ -6,6 +6,7 @@ use Prim.Native.Nat.{ℕ, ◌+◌, ◌-◌, ◌/◌, ◌%◌, ◌≤◌, ◌<◌
 use native.Mathlib.Omega.{arith}
 use lib.ListN.{length, get_or, set, length-set}
 use lib.Seq.{sets, length-sets}
+use Rattle.std.proofs.Common.{Ok, Err}
 use Rattle.tctl.specs.Kind.{some_run, all_runs}
 use Rattle.tctl.specs.Formula.{Formula, not}
 use Rattle.rule_grammar.specs.Grammar.{fault}
@@ -20,10 +21,11 @@ use Rattle.rule_bytes.proofs.Tree.{join_bytes, join_nodes, join_bytes_lem}
 use Rattle.rule_tokens.specs.Tags.{join_tag}
 use Rattle.rule_numbers.specs.Byte.{byte_is}
 use Rattle.rule_numbers.proofs.Byte.{Span, byte_step, byte_not, inside_at}
+use Rattle.rule_parser.specs.declared.Phase.TheVariants.{Start, Read, Done}
 use Rattle.rule_parser.specs.declared.Spot.{Spot}
 use Rattle.rule_stack.specs.Open.{held, written, entry, coded, put, one_node, joined_node}
 use Rattle.rule_parser.specs.Standing.{spot, Opened, Noded, Within, Reaches}
-use Rattle.rule_parser.specs.Standing.{Starting, Behind, Finished, Standing, Turned}
+use Rattle.rule_parser.specs.Standing.{Starting, Turned}
 use Rattle.rule_parser.proofs.Stack.{opened_size, opened_byte, opened_around, opened_more}
 use Rattle.rule_parser.proofs.Nodes.{noded_more}
 
@@ -34,70 +36,21 @@ tag_parts disj = (refl, refl)
 tag_parts (until some_run s c) = let few = kind_few s c in (omega arith, omega arith)
 tag_parts (until all_runs s c) = let few = kind_few s c in (omega arith, omega arith)
 
--- ── standing in one phase ──
-
-module _ {t : List ℕ} {e d n : ℕ} {stack all : List ℕ} where
-  pub starts : Starting t (spot 0 e d n) stack all → Standing t (spot 0 e d n) stack all
-  starts h =
-      record {
-        known = omega arith;
-        starting = λ _. h;
-        behind = λ z. absurd (let y : ⊥ = omega (arith, z) in y);
-        stopped = λ z. absurd (let y : ⊥ = omega (arith, z) in y);
-        finished = λ z. absurd (let y : ⊥ = omega (arith, z) in y);
-      }
-
-  stands_behind : Behind t (spot 1 e d n) stack all → Standing t (spot 1 e d n) stack all
-  stands_behind h =
-      record {
-        known = omega arith;
-        starting = λ z. absurd (let y : ⊥ = omega (arith, z) in y);
-        behind = λ _. h;
-        stopped = λ z. absurd (let y : ⊥ = omega (arith, z) in y);
-        finished = λ z. absurd (let y : ⊥ = omega (arith, z) in y);
-      }
-
-  stops : judge t ≡ fault e → Standing t (spot 2 e d n) stack all
-  stops h =
-      record {
-        known = omega arith;
-        starting = λ z. absurd (let y : ⊥ = omega (arith, z) in y);
-        behind = λ z. absurd (let y : ⊥ = omega (arith, z) in y);
-        stopped = λ _. h;
-        finished = λ z. absurd (let y : ⊥ = omega (arith, z) in y);
-      }
-
-  finishes : Finished t (spot 3 e d n) all → Standing t (spot 3 e d n) stack all
-  finishes h =
-      record {
-        known = omega arith;
-        starting = λ z. absurd (let y : ⊥ = omega (arith, z) in y);
-        behind = λ z. absurd (let y : ⊥ = omega (arith, z) in y);
-        stopped = λ z. absurd (let y : ⊥ = omega (arith, z) in y);
-        finished = λ _. h;
-      }
-
 module _ (t : List ℕ) (s : Spot) (stack all : List ℕ) (w : Within t s stack) where
   -- the text has its fault here
-  pub stop_turn : (e : ℕ) → e ≤ length t → judge t ≡ fault e → Turned t s (spot 2 e 0 0) stack all
-  stop_turn e l h =
-      record {
-        standing = stops h;
-        within = record { read = l; short = w.short; room = w.room; few = omega arith };
-        onward = λ z. absurd (let y : ⊥ = omega (arith, z) in y);
-      }
+  pub stop_turn : (e : ℕ) → e ≤ length t → judge t ≡ fault e → Turned t s (Err e) stack all
+  stop_turn e l h = record { judged = h; inside = l }
 
   -- an operand of one node was read
   pub leaf_turn :
       (h : Starting t s stack all) (f : Formula) (node : List ℕ) (e : ℕ) → length node ≡ 8 → nodes f ≡ 1 →
       (s.count < 64 → node ≡ nodes_from (held h.around) f) → Span t s.end 2 e →
       from t s.end (at start h.around) ≡ from t e (at (ended f) h.around) →
-      Turned t s (spot 1 e s.depth (s.count + 1)) stack (put s.count node all)
+      Turned t s (Ok (spot Read e s.depth (s.count + 1))) stack (put s.count node all)
   leaf_turn h f node e size one same span reach =
       record {
         standing =
-            stands_behind
-            (record {
+            record {
               around = h.around;
               operand = f;
               opened = h.opened;
@@ -106,7 +59,7 @@ module _ (t : List ℕ) (s : Spot) (stack all : List ℕ) (w : Within t s stack)
                   noded_more node _ size h.noded
                   (λ l. ap (λ (b : List ℕ). written h.around ++ b) (same l));
               reaches = h.reaches ∙ reach;
-            });
+            };
         within =
             record { read = span.inside; short = w.short; room = w.room; few = omega (arith, w.few, span.long) };
         onward = λ _. omega (arith, span.long, span.inside);
@@ -117,7 +70,7 @@ module _ (t : List ℕ) (s : Spot) (stack all : List ℕ) (w : Within t s stack)
       (h : Starting t s stack all) (k : Context) (tag e : ℕ) → held (k ∷ h.around) ≡ held h.around →
       written (k ∷ h.around) ≡ written h.around → entry (held h.around) k ≡ tag ∷ [] → Span t s.end 1 e →
       from t s.end (at start h.around) ≡ from t e (at start (k ∷ h.around)) →
-      Turned t s (spot 0 e (s.depth + 1) s.count) (set stack s.depth tag) all
+      Turned t s (Ok (spot Start e (s.depth + 1) s.count)) (set stack s.depth tag) all
   push_turn h k tag e count nodes one span reach =
       let room : s.depth + 1 ≤ length stack = omega (arith, w.few, w.room, span.long, span.inside) in
       let pushed =
@@ -125,8 +78,7 @@ module _ (t : List ℕ) (s : Spot) (stack all : List ℕ) (w : Within t s stack)
       (subst (λ (l : List ℕ). s.depth + length l ≤ length stack) (sym one) room) in
       record {
         standing =
-            starts
-            (record {
+            record {
               around = k ∷ h.around;
               opened =
                   subst
@@ -134,7 +86,7 @@ module _ (t : List ℕ) (s : Spot) (stack all : List ℕ) (w : Within t s stack)
               count = h.count ∙ sym count;
               noded = subst (λ (b : List ℕ). Noded s.count b all) (sym nodes) h.noded;
               reaches = h.reaches ∙ reach;
-            });
+            };
         within =
             record {
               read = span.inside;
@@ -149,7 +101,7 @@ module _ (t : List ℕ) (s : Spot) (stack all : List ℕ) (w : Within t s stack)
   pub not_turn :
       (f : Formula) (K : List Context) → Opened (negated ∷ K) s.depth stack → s.count ≡ held K + nodes f →
       Noded s.count (written K ++ nodes_from (held K) f) all → Reaches t s (at (ended f) (negated ∷ K)) →
-      Turned t s (spot 1 s.end (s.depth - 1) (s.count + 1)) stack
+      Turned t s (Ok (spot Read s.end (s.depth - 1) (s.count + 1))) stack
       (put s.count (one_node 2 ((s.count - 1) % 256)) all)
   unfolding step done nodes_from
   not_turn f K h c n r =
@@ -162,8 +114,7 @@ module _ (t : List ℕ) (s : Spot) (stack all : List ℕ) (w : Within t s stack)
       rw (low, same) in
       record {
         standing =
-            stands_behind
-            (record {
+            record {
               around = K;
               operand = not f;
               opened =
@@ -175,7 +126,7 @@ module _ (t : List ℕ) (s : Spot) (stack all : List ℕ) (w : Within t s stack)
                   ap (λ (b : List ℕ). written K ++ nodes_from (held K) f ++ b) (node_bytes_lem l) ∙ simp append_assoc);
               reaches =
                   r ∙ from_same t s.end (at (ended f) (negated ∷ K)) (at (ended (not f)) K) w.read (λ _. refl) refl;
-            });
+            };
         within = record { read = w.read; short = w.short; room = w.room; few = omega (arith, w.few, size) };
         onward = λ _. omega (arith, size);
       }
@@ -186,7 +137,7 @@ module _ (t : List ℕ) (s : Spot) (stack all : List ℕ) (w : Within t s stack)
       s.count ≡ held K + nodes f → Noded s.count (written K ++ nodes_from (held K) f) all →
       Reaches t s (at (ended f) (opened o ∷ K)) → Span t s.end 3 e →
       from t s.end (at (ended f) (opened o ∷ K)) ≡ from t e (at start (joined j f ∷ K)) →
-      Turned t s (spot 0 e (s.depth + 3) s.count)
+      Turned t s (Ok (spot Start e (s.depth + 3) s.count))
       (sets stack (s.depth - 1) (number_of j / 256 ∷ number_of j % 256 ∷ (s.count - 1) % 256 ∷ join_tag j ∷ [])) all
   join_turn f o K j e h c n r span reach =
       let size = opened_size (opened o) K s.depth stack h in
@@ -200,8 +151,7 @@ module _ (t : List ℕ) (s : Spot) (stack all : List ℕ) (w : Within t s stack)
       let kept : entry (held K) (joined j f) ≡ bytes = rw same in
       record {
         standing =
-            starts
-            (record {
+            record {
               around = joined j f ∷ K;
               opened =
                   subst (λ (l : List ℕ). Opened (joined j f ∷ K) (s.depth + 3) (sets stack (s.depth - 1) l)) kept
@@ -211,7 +161,7 @@ module _ (t : List ℕ) (s : Spot) (stack all : List ℕ) (w : Within t s stack)
               count = c;
               noded = n;
               reaches = r ∙ reach;
-            });
+            };
         within =
             record {
               read = span.inside;
@@ -228,7 +178,7 @@ module _ (t : List ℕ) (s : Spot) (stack all : List ℕ) (w : Within t s stack)
       s.count ≡ held K + nodes g + nodes f →
       Noded s.count (written K ++ nodes_from (held K) g ++ nodes_from (held K + nodes g) f) all →
       Reaches t s (at (ended f) (joined j g ∷ K)) → byte_is t s.end 41 ≡ true →
-      Turned t s (spot 1 (s.end + 1) (s.depth - 4) (s.count + 1)) stack
+      Turned t s (Ok (spot Read (s.end + 1) (s.depth - 4) (s.count + 1))) stack
       (put s.count (joined_node (get_or stack (s.depth - 1) 0) (s.depth - 4) s.count stack) all)
   unfolding step
   close_turn f g j K h c n r b =
@@ -250,8 +200,7 @@ module _ (t : List ℕ) (s : Spot) (stack all : List ℕ) (w : Within t s stack)
       let inside = inside_at t s.end 41 b in
       record {
         standing =
-            stands_behind
-            (record {
+            record {
               around = K;
               operand = join j g f;
               opened = subst (λ (d : ℕ). Opened K d stack) below (opened_around (joined j g) K s.depth stack h);
@@ -261,7 +210,7 @@ module _ (t : List ℕ) (s : Spot) (stack all : List ℕ) (w : Within t s stack)
                   (written K ++ nodes_from (held K) (join j g f)) refl n
                   (λ l. rw (node_bytes_lem l, join_bytes_lem j (held K) g f) (simp append_assoc));
               reaches = r ∙ byte_step t s.end 41 (at (ended f) (joined j g ∷ K)) (at (ended (join j g f)) K) b refl;
-            });
+            };
         within =
             record {
               read = omega (arith, inside);
@@ -275,7 +224,7 @@ module _ (t : List ℕ) (s : Spot) (stack all : List ℕ) (w : Within t s stack)
   -- no bracket stands there
   pub open_turn :
       (f g : Formula) (j : Join) (K : List Context) → Reaches t s (at (ended f) (joined j g ∷ K)) →
-      byte_is t s.end 41 ≡ false → Turned t s (spot 2 s.end 0 0) stack all
+      byte_is t s.end 41 ≡ false → Turned t s (Err s.end) stack all
   unfolding step done
   open_turn f g j K r b =
       stop_turn s.end w.read
@@ -284,24 +233,23 @@ module _ (t : List ℕ) (s : Spot) (stack all : List ℕ) (w : Within t s stack)
   -- nothing is open: the text ends, or has its fault there
   pub finish_turn :
       (f : Formula) → s.count ≡ nodes f → Noded s.count (nodes_from 0 f) all → Reaches t s (at (ended f) []) →
-      s.end ≡ length t → Turned t s (spot 3 s.end 0 s.count) stack all
+      s.end ≡ length t → Turned t s (Ok (spot Done s.end 0 s.count)) stack all
   unfolding done
   finish_turn f c n r e =
       record {
         standing =
-            finishes
-            (record {
+            record {
               whole = f;
               end = e;
               count = c;
               noded = n;
               verdict = r ∙ from_end t s.end (at (ended f) []) e;
-            });
+            };
         within = record { read = w.read; short = w.short; room = w.room; few = omega (arith, w.few) };
-        onward = λ z. absurd (let y : ⊥ = omega (arith, z) in y);
+        onward = λ z. absurd (z refl);
       }
 
   pub rest_turn :
-      (f : Formula) → Reaches t s (at (ended f) []) → s.end < length t → Turned t s (spot 2 s.end 0 0) stack all
+      (f : Formula) → Reaches t s (at (ended f) []) → s.end < length t → Turned t s (Err s.end) stack all
   unfolding step
   rest_turn f r l = stop_turn s.end w.read (r ∙ from_stuck t s.end (at (ended f) []) l refl)

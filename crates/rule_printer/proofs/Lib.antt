@@ -1,4 +1,3 @@
-pub mod Parts
 pub mod NodeText
 pub mod NodeCount
 pub mod Size

@@ -17,7 +17,7 @@ use Rattle.rule.specs.Bytes.{node_count, node_words}
 use Rattle.rule.specs.Formula.{operation, formula_at, formula_of}
 use Rattle.rule.specs.Refusals.{names, uses_in, uses}
 use Rattle.rule.specs.declared.NodeWords.{NodeWords}
-use Rattle.rule.proofs.Operation.{uses_by}
+use Rattle.rule.proofs.FormOf.{uses_by}
 use Rattle.rule.proofs.Accepted.{AcceptedRule, lower_a, lower_b}
 use Rattle.rule.proofs.Tree.{formula_at_lem}
 use Rattle.rule_bytes.specs.RuleBytes.{nodes}

@@ -1,7 +1,7 @@
 // A rule written back as text, node by node down its tree, into a lent buffer.
 #![tactic(auto)]
 
-ghost use Rattle.std.specs.Prelude.{◌≡◌, cond, ◌<◌};
+ghost use Rattle.std.specs.Prelude.{◌≡◌, ◌<◌};
 ghost use Rattle.append.specs.Piece.{Room, Appended};
 ghost use Rattle.rule.specs.Bytes.{node_count};
 ghost use Rattle.rule.specs.Refusals.{rule_refusal};
@@ -9,17 +9,8 @@ ghost use Rattle.rule.specs.Formula.{bound_of, formula_at};
 ghost use Rattle.rule_grammar.specs.Text.{until_sign, text};
 ghost use Rattle.rule_printer.specs.Parts.{leaf_text, opening_text, kind_byte, sign_text, between_text};
 
-// One of two bytes.
-fn pick(test: bool, a: u8, b: u8) -> u8
-    ensures { result ≡ cond test a b }
-{
-    if test {
-        return a;
-    }
-    b
-}
-
 // A node without operands.
+#[tactic(auto, unfolding(crate::specs::Parts::leaf_text))]
 fn put_leaf(operation: u8, a: usize, at: usize, out: &mut [u8]) -> usize
     requires { Room at (leaf_text operation a) out.old }
     ensures { Appended at (leaf_text operation a) result out.old out.new }
@@ -31,24 +22,35 @@ fn put_leaf(operation: u8, a: usize, at: usize, out: &mut [u8]) -> usize
     decimal::put_number(a, lettered, out)
 }
 
-// What stands before the first operand.
+// What stands before the first operand of an operation that has one.
+#[tactic(auto, unfolding(crate::specs::Parts::opening_text))]
+fn opening(operation: u8) -> &'static [u8]
+    ensures { result.now ≡ opening_text operation }
+{
+    match operation {
+        rule::NOT => b"!",
+        rule::SOME_UNTIL => b"E(",
+        ..=rule::OR => b"(",
+        _ => b"A(",
+    }
+}
+
 fn put_opening(operation: u8, at: usize, out: &mut [u8]) -> usize
     requires { Room at (opening_text operation) out.old }
     ensures { Appended at (opening_text operation) result out.old out.new }
 {
-    if operation < rule::SOME_UNTIL {
-        return append::put(pick(operation == rule::NOT, b'!', b'('), at, out);
-    }
-    let lettered = append::put(pick(operation == rule::SOME_UNTIL, b'E', b'A'), at, out);
-    append::put(b'(', lettered, out)
+    append::put_word(opening(operation), at, out)
 }
 
 // The first byte of <=, >= or ==, by the kind of the bound.
 fn kind_byte(kind: u8) -> u8
     ensures { result ≡ kind_byte kind }
 {
-    let other = pick(kind == rule::AT_LEAST, b'>', b'=');
-    pick(kind == rule::AT_MOST, b'<', other)
+    match kind {
+        rule::AT_MOST => b'<',
+        rule::AT_LEAST => b'>',
+        _ => b'=',
+    }
 }
 
 fn put_until(kind: u8, c: usize, at: usize, out: &mut [u8]) -> usize
@@ -61,6 +63,7 @@ fn put_until(kind: u8, c: usize, at: usize, out: &mut [u8]) -> usize
     decimal::put_number(c, equalled, out)
 }
 
+#[tactic(auto, unfolding(crate::specs::Parts::sign_text))]
 fn put_sign(operation: u8, kind: u8, c: usize, at: usize, out: &mut [u8]) -> usize
     requires { Room at (sign_text operation kind c) out.old }
     ensures { Appended at (sign_text operation kind c) result out.old out.new }
@@ -68,10 +71,12 @@ fn put_sign(operation: u8, kind: u8, c: usize, at: usize, out: &mut [u8]) -> usi
     if rule::OR < operation {
         return put_until(kind, c, at, out);
     }
-    append::put(pick(operation == rule::AND, b'&', b'|'), at, out)
+    let sign = if operation == rule::AND { b'&' } else { b'|' };
+    append::put(sign, at, out)
 }
 
 // The sign, with its spaces.
+#[tactic(auto, unfolding(crate::specs::Parts::between_text))]
 fn put_between(operation: u8, kind: u8, c: usize, at: usize, out: &mut [u8]) -> usize
     requires { Room at (between_text operation kind c) out.old }
     ensures { Appended at (between_text operation kind c) result out.old out.new }

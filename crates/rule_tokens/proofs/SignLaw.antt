@@ -7,7 +7,7 @@ use Prim.Native.Nat.{ℕ, ◌+◌, ◌-◌, ◌≤◌, ◌<◌}
 use native.Mathlib.Omega.{arith}
 use lib.ListN.{length, get_or, drop}
 use lib.Dec.{ltb}
-use borrow.Author.Tests.{ltb-true, ne_eqb, eq-eqb}
+use borrow.Author.Tests.{ltb-true}
 use Rattle.base.proofs.Truth.{and_iff, cond_elim}
 use Rattle.tctl.specs.Kind.{Runs}
 use Rattle.tctl.specs.Formula.{Formula}
@@ -77,13 +77,13 @@ module _ (s : List ℕ) (K : List Context) (f : Formula) (o : Opening) where
             further_grown s (λ m. at (linked (until q g m) f) K) (most_of g)
             (λ m b z. rw (digit_no_space m b (most_of g) z, z)) n (k + 1) (omega (arith, h)) few in
             let r = further (most_of g) n (drop (k + 1) s) (k + 1) in
-            rw (d, ne_eqb r.end k (λ z. let y : ⊥ = omega (arith, w.after, z) in y))
+            rw d
             (space_law (until q g r.value) r.end (omega (arith, w.few, (most_range g).1)) (omega (arith, p, w.after))
             w.inside
             (e ∙ from_step s k (at (equalled q g f) K) h (rw one) ∙ w.same)
             (λ m. rw (w.stops m)))
         turn false d =
-            rw (d, eq-eqb k k refl) (halts (at (equalled q g f) K) k l e refl (λ h. rw (digit_not s k d h)))
+            rw d (halts (at (equalled q g f) K) k l e refl (λ h. rw (digit_not s k d h)))
 
     -- behind "U<", "U>" or "U="
     equal_law :

@@ -7,7 +7,7 @@ use Prim.Native.Nat.{ℕ, ◌+◌, ◌-◌, ◌≤◌, ◌<◌}
 use native.Mathlib.Omega.{arith}
 use lib.ListN.{length, get_or, drop}
 use lib.Dec.{ltb}
-use borrow.Author.Tests.{ltb-true, ne_eqb, eq-eqb}
+use borrow.Author.Tests.{ltb-true}
 use Rattle.base.proofs.Truth.{and_iff, cond_elim}
 use Rattle.tctl.specs.Kind.{Runs, some_run, all_runs}
 use Rattle.tctl.specs.Formula.{always, label}
@@ -83,14 +83,14 @@ module _ (s : List ℕ) (K : List Context) where
             further_grown s (λ m. at (labelled m) K) 15 (λ m b h. rw h) n (j + 1) (omega (arith, k))
             (omega (arith, low.low, low.high)) in
             let r = further 15 n (drop (j + 1) s) (j + 1) in
-            rw (d, ne_eqb r.end j (λ z. let y : ⊥ = omega (arith, g.after, z) in y))
+            rw d
             (label_begun {n = r.value} {e = r.end} (record { long = omega (arith, p, g.after); inside = g.inside })
             g.few
             (e ∙ from_step s j (at letter K) k (rw one) ∙ g.same ∙
             from_same s r.end (at (labelled r.value) K) (at (ended (label r.value)) K) g.inside
             (λ m. rw (g.stops m)) refl))
         turn false d =
-            rw (d, eq-eqb j j refl)
+            rw d
             (none_law (at letter K) j l e refl
             (λ k. rw (digit_not s j d k)))
 

@@ -1,5 +1,5 @@
 -- The sign between two operands, with its spaces.
-use Rattle.std.specs.Prelude.{cond, List, ℕ, ◌+◌, eqb}
+use Rattle.std.specs.Prelude.{cond, Option, Some, None, Result, Ok, Err, List, ℕ, ◌+◌}
 use Rattle.tctl.specs.Kind.{Runs}
 use Rattle.rule_grammar.specs.Machine.{Sign, less, more, equal, Join, conj, disj, until, Opening, pair, timed, most_of}
 use Rattle.rule_bytes.specs.JoinNode.{number_of}
@@ -20,8 +20,9 @@ abbrev pub space_from : Join → List ℕ → ℕ → Signed
 space_from j t i = cond (byte_is t i 32) (joins j (i + 1)) (unsigned i)
 
 -- behind "U<=", "U>=" or "U=="
-abbrev pub limit_of : Runs → Sign → List ℕ → ℕ → Number → Signed
-limit_of q s t i n = cond (eqb n.end i) (unsigned i) (space_from (until q s n.value) t n.end)
+abbrev pub limit_of : Runs → Sign → List ℕ → ℕ → Option Number → Signed
+limit_of q s t i None = unsigned i
+limit_of q s t i (Some n) = space_from (until q s n.value) t n.end
 
 abbrev pub limit_from : Runs → Sign → List ℕ → ℕ → Signed
 limit_from q s t i = limit_of q s t i (number_from (most_of s) t i)
@@ -49,7 +50,7 @@ sign_from (timed q) t i = cond (byte_is t i 85) (bound_from q t (i + 1)) (unsign
 unfoldable pub sign_of : Opening → List ℕ → ℕ → Signed
 sign_of o t i = cond (byte_is t i 32) (sign_from o t (i + 1)) (unsigned i)
 
--- the tag and c, or 7 for none
-abbrev pub sign_token : Signed → Token
-sign_token (joins j e) = token (join_tag j) (number_of j) e
-sign_token (unsigned e) = token 7 0 e
+-- the tag and c; for none the place
+abbrev pub sign_token : Signed → Result Token ℕ
+sign_token (joins j e) = Ok (token (join_tag j) (number_of j) e)
+sign_token (unsigned e) = Err e

@@ -1,5 +1,5 @@
 -- The token at a place where an operand starts.
-use Rattle.std.specs.Prelude.{cond, List, ℕ, ◌+◌, eqb}
+use Rattle.std.specs.Prelude.{cond, Option, Some, None, Result, Ok, Err, List, ℕ, ◌+◌}
 use Rattle.tctl.specs.Kind.{Runs, some_run, all_runs}
 use Rattle.rule_grammar.specs.Machine.{Opening, pair, timed}
 use Rattle.rule_numbers.specs.declared.Number.{Number}
@@ -26,8 +26,9 @@ true_from t i =
     (nowhere i)
 
 -- behind "L"
-abbrev pub label_of : ℕ → Number → Start
-label_of i n = cond (eqb n.end i) (nowhere i) (labels n.value n.end)
+abbrev pub label_of : ℕ → Option Number → Start
+label_of i None = nowhere i
+label_of i (Some n) = labels n.value n.end
 
 abbrev pub label_from : List ℕ → ℕ → Start
 label_from t i = label_of i (number_from 15 t i)
@@ -58,10 +59,11 @@ start_of t i = cond (byte_is t i 116) (true_from t (i + 1)) (from_l t i)
 abbrev pub token : ℕ → ℕ → ℕ → Token
 token tag number end = record { tag = tag; number = number; end = end }
 
--- 0 and 1, the node's operation, for one that is an operand; the tag of one that stands before an operand; 7 for none
-abbrev pub start_token : Start → Token
-start_token (truth e) = token 0 0 e
-start_token (labels n e) = token 1 n e
-start_token (negates e) = token 2 0 e
-start_token (opens o e) = token (open_tag o) 0 e
-start_token (nowhere e) = token 7 0 e
+-- 0 and 1, the node's operation, for one that is an operand; the tag of one that stands before an operand; for none the
+-- place
+abbrev pub start_token : Start → Result Token ℕ
+start_token (truth e) = Ok (token 0 0 e)
+start_token (labels n e) = Ok (token 1 n e)
+start_token (negates e) = Ok (token 2 0 e)
+start_token (opens o e) = Ok (token (open_tag o) 0 e)
+start_token (nowhere e) = Err e

@@ -9,8 +9,10 @@ ghost use Rattle.rule_tokens.specs.Tags.{open_tag, until_tag, join_tag, OfOpenin
 ghost use Rattle.rule_tokens.specs.Start.{token, start_token, true_from, label_from, bracket_from, start_of};
 ghost use Rattle.rule_tokens.specs.Sign.{sign_token, space_from, equal_from, bound_from, sign_from, sign_of};
 
-// No token stands there.
-pub const NONE: u8 = 7;
+use rule_numbers::{behind, number_from};
+
+// A tag says what a token is, as a byte, for the parser keeps it on a lent stack of bytes: the node's operation, but for
+// these.
 
 // "(", and "|" or "&" unknown yet.
 pub const PAIR: u8 = 3;
@@ -21,7 +23,7 @@ pub const JOINED: u8 = 8;
 // The most that c may be behind <= and >=.
 const MOST: u32 = 65535;
 
-// What stands at a place, its number, and where it ends. Where there is none, it ends at the byte that none goes on from.
+// What stands at a place, its number, and where it ends. Where none does, the error is the place that none goes on from.
 #[derive(Clone, Copy)]
 pub struct Token {
     pub tag: u8,
@@ -35,155 +37,108 @@ fn found(tag: u8, number: u32, end: usize) -> Token
     Token { tag, number, end }
 }
 
-fn none(end: usize) -> Token
-    ensures { result ≡ token 7 0 end }
-{
-    Token {
-        tag: NONE,
-        number: 0,
-        end,
-    }
-}
-
 // The rest of `true`, behind its first letter.
-fn true_from(text: &[u8], i: usize) -> Token
+fn true_from(text: &[u8], i: usize) -> Result<Token, usize>
     requires { i ≤ length text.now }
     ensures { result ≡ start_token (true_from text.now i) }
 {
-    if rule_numbers::stands(text, i, b'r') {
-        if rule_numbers::stands(text, i + 1, b'u') {
-            if rule_numbers::stands(text, i + 2, b'e') {
-                return found(rule::TRUE, 0, i + 3);
-            }
-            return none(i + 2);
-        }
-        return none(i + 1);
-    }
-    none(i)
+    let second = behind(text, i, b'r')?;
+    let third = behind(text, second, b'u')?;
+    let end = behind(text, third, b'e')?;
+    Ok(found(rule::TRUE, 0, end))
 }
 
 // A label's number.
-fn label_from(text: &[u8], i: usize) -> Token
+fn label_from(text: &[u8], i: usize) -> Result<Token, usize>
     requires { i ≤ length text.now }
     ensures { result ≡ start_token (label_from text.now i) }
 {
-    let number = rule_numbers::number_from(text, 15, i);
-    if number.end == i {
-        return none(i);
-    }
-    found(rule::LABEL, number.value, number.end)
+    let number = number_from(text, 15, i).ok_or(i)?;
+    Ok(found(rule::LABEL, number.value, number.end))
 }
 
 // The bracket behind E or A.
-fn bracket_from(text: &[u8], i: usize, tag: u8) -> Token
+fn bracket_from(text: &[u8], i: usize, tag: u8) -> Result<Token, usize>
     requires { (i ≤ length text.now) × OfRuns tag }
     ensures { (q : Runs) → tag ≡ open_tag (timed q) → result ≡ start_token (bracket_from q text.now i) }
 {
-    if rule_numbers::stands(text, i, b'(') {
-        return found(tag, 0, i + 1);
-    }
-    none(i)
+    let end = behind(text, i, b'(')?;
+    Ok(found(tag, 0, end))
 }
 
 // The token where an operand starts.
-pub fn start(text: &[u8], i: usize) -> Token
+#[tactic(auto, unfolding(crate::specs::Start::start_of))]
+pub fn start(text: &[u8], i: usize) -> Result<Token, usize>
     requires { i ≤ length text.now }
     ensures { result ≡ start_token (start_of text.now i) }
 {
-    if rule_numbers::stands(text, i, b't') {
-        return true_from(text, i + 1);
+    match text.get(i) {
+        Some(b't') => true_from(text, i + 1),
+        Some(b'L') => label_from(text, i + 1),
+        Some(b'!') => Ok(found(rule::NOT, 0, i + 1)),
+        Some(b'(') => Ok(found(PAIR, 0, i + 1)),
+        Some(b'E') => bracket_from(text, i + 1, rule::SOME_UNTIL),
+        Some(b'A') => bracket_from(text, i + 1, rule::ALL_UNTIL),
+        _ => Err(i),
     }
-    if rule_numbers::stands(text, i, b'L') {
-        return label_from(text, i + 1);
-    }
-    if rule_numbers::stands(text, i, b'!') {
-        return found(rule::NOT, 0, i + 1);
-    }
-    if rule_numbers::stands(text, i, b'(') {
-        return found(PAIR, 0, i + 1);
-    }
-    if rule_numbers::stands(text, i, b'E') {
-        return bracket_from(text, i + 1, rule::SOME_UNTIL);
-    }
-    if rule_numbers::stands(text, i, b'A') {
-        return bracket_from(text, i + 1, rule::ALL_UNTIL);
-    }
-    none(i)
 }
 
 // The space behind a sign.
-fn space_from(text: &[u8], i: usize, tag: u8, number: u32) -> Token
+fn space_from(text: &[u8], i: usize, tag: u8, number: u32) -> Result<Token, usize>
     requires { (i ≤ length text.now) × OfJoin tag number }
     ensures { (j : Join) → tag ≡ join_tag j → number ≡ number_of j →
         result ≡ sign_token (space_from j text.now i) }
 {
-    if rule_numbers::stands(text, i, b' ') {
-        return found(tag, number, i + 1);
-    }
-    none(i)
+    let end = behind(text, i, b' ')?;
+    Ok(found(tag, number, end))
 }
 
 // "=" and the number behind <, > or =.
-fn equal_from(text: &[u8], i: usize, tag: u8, most: u32) -> Token
+fn equal_from(text: &[u8], i: usize, tag: u8, most: u32) -> Result<Token, usize>
     requires { (i ≤ length text.now) × OfUntil tag most }
     ensures { (q : Runs) (s : Sign) → tag ≡ until_tag q s → most ≡ most_of s →
         result ≡ sign_token (equal_from q s text.now i) }
 {
-    if rule_numbers::stands(text, i, b'=') {
-        let number = rule_numbers::number_from(text, most, i + 1);
-        if number.end == i + 1 {
-            return none(i + 1);
-        }
-        return space_from(text, number.end, tag, number.value);
-    }
-    none(i)
+    let from = behind(text, i, b'=')?;
+    let number = number_from(text, most, from).ok_or(from)?;
+    space_from(text, number.end, tag, number.value)
 }
 
 // The bound behind U.
-fn bound_from(text: &[u8], i: usize, opening: u8) -> Token
+fn bound_from(text: &[u8], i: usize, opening: u8) -> Result<Token, usize>
     requires { (i ≤ length text.now) × (opening ≤ 6) × OfRuns opening }
     ensures { (q : Runs) → opening ≡ open_tag (timed q) → result ≡ sign_token (bound_from q text.now i) }
 {
-    if rule_numbers::stands(text, i, b'<') {
-        return equal_from(text, i + 1, JOINED * opening + rule::AT_MOST, MOST);
+    match text.get(i) {
+        Some(b'<') => equal_from(text, i + 1, JOINED * opening + rule::AT_MOST, MOST),
+        Some(b'>') => equal_from(text, i + 1, JOINED * opening + rule::AT_LEAST, MOST),
+        Some(b'=') => equal_from(text, i + 1, JOINED * opening + rule::EXACTLY, rule::LONGEST),
+        _ => Err(i),
     }
-    if rule_numbers::stands(text, i, b'>') {
-        return equal_from(text, i + 1, JOINED * opening + rule::AT_LEAST, MOST);
-    }
-    if rule_numbers::stands(text, i, b'=') {
-        return equal_from(text, i + 1, JOINED * opening + rule::EXACTLY, rule::LONGEST);
-    }
-    none(i)
 }
 
 // & or |, behind a space.
-fn pair_from(text: &[u8], i: usize) -> Token
+fn pair_from(text: &[u8], i: usize) -> Result<Token, usize>
     requires { i ≤ length text.now }
     ensures { result ≡ sign_token (sign_from pair text.now i) }
 {
-    if rule_numbers::stands(text, i, b'&') {
-        return space_from(text, i + 1, JOINED * rule::AND, 0);
+    match text.get(i) {
+        Some(b'&') => space_from(text, i + 1, JOINED * rule::AND, 0),
+        Some(b'|') => space_from(text, i + 1, JOINED * rule::OR, 0),
+        _ => Err(i),
     }
-    if rule_numbers::stands(text, i, b'|') {
-        return space_from(text, i + 1, JOINED * rule::OR, 0);
-    }
-    none(i)
 }
 
 // The sign behind the first of two operands, by how they were opened.
-pub fn sign(text: &[u8], i: usize, opening: u8) -> Token
+#[tactic(auto, unfolding(crate::specs::Sign::sign_of))]
+pub fn sign(text: &[u8], i: usize, opening: u8) -> Result<Token, usize>
     requires { (i ≤ length text.now) × (opening ≤ 6) × OfOpening opening }
     ensures { (o : Opening) → opening ≡ open_tag o → result ≡ sign_token (sign_of o text.now i) }
 {
-    if rule_numbers::stands(text, i, b' ') {
-        if opening == PAIR {
-            return pair_from(text, i + 1);
-        }
-        let next = i + 1;
-        if rule_numbers::stands(text, next, b'U') {
-            return bound_from(text, next + 1, opening);
-        }
-        return none(next);
+    let next = behind(text, i, b' ')?;
+    if opening == PAIR {
+        return pair_from(text, next);
     }
-    none(i)
+    let bound = behind(text, next, b'U')?;
+    bound_from(text, bound, opening)
 }

@@ -2,13 +2,14 @@
 #![tactic(auto)]
 
 ghost use Rattle.std.specs.Prelude.{◌≡◌, true, [], ◌∷◌, ℕ, ◌+◌, ◌<◌, eqb};
+ghost use Rattle.outcome.specs.Answer.{answer};
 ghost use Rattle.outcome.specs.Refusal.{first};
 ghost use Rattle.rule.specs.Shape.{Ordered, SmallOperands};
 ghost use Rattle.rule.specs.Refusals.{names, uses_in, uses};
 ghost use Rattle.rule_uses.specs.Counted.{Counted};
 ghost use Rattle.rule.specs.Rows.{use_row};
 
-use outcome::Outcome;
+use outcome::{Fault, Refusal};
 use rule::NodeWords;
 
 // The nodes that are an operand, and those that are one again.
@@ -42,12 +43,11 @@ fn with_operands(used: Used, w: NodeWords) -> Used
     requires { SmallOperands w }
     ensures { (count : ℕ → ℕ) → Counted used count → Counted result (λ u. count u + uses_in u w) }
 {
-    let form = rule::form::form(w.operation);
-    if form < rule::form::ONE_OPERAND {
+    if !w.has_left() {
         return used;
     }
     let left = with_use(used, w.a);
-    if form < rule::form::TWO_OPERANDS {
+    if !w.has_right() {
         return left;
     }
     with_use(left, w.b)
@@ -59,11 +59,9 @@ fn used_nodes(rule: &[u8], k: usize) -> Used
     ensures { Counted result (uses rule.now k) }
 {
     let mut used = Used { once: 0, again: 0 };
-    let mut t = 0;
-    while t < k {
+    for t in 0..k {
         let w = rule::node_at(rule, t);
         used = with_operands(used, w);
-        t += 1;
     }
     used
 }
@@ -77,18 +75,16 @@ fn used_once(used: Used, v: usize) -> bool
 }
 
 // Row 16: the lowest node but the last that is not used exactly once.
-pub fn use_refusal(rule: &[u8], k: usize) -> Outcome
+pub fn use_refusal(rule: &[u8], k: usize) -> Result<(), Refusal>
     requires { Ordered rule.now k }
-    ensures { result ≡ first (use_row rule.now k ∷ []) }
+    ensures { answer result ≡ first (use_row rule.now k ∷ []) }
 {
     let used = used_nodes(rule, k);
     let last = k - 1;
-    let mut v = 0;
-    while v < last {
+    for v in 0..last {
         if !used_once(used, v) {
-            return outcome::refused(outcome::NOT_USED_ONCE, v as u32);
+            return Err(Fault::NotUsedOnce.at(v));
         }
-        v += 1;
     }
-    outcome::accepted()
+    Ok(())
 }

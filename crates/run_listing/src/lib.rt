@@ -85,8 +85,7 @@ pub fn list_run(run: &[u8], all: bool, c: u32, out: &mut [u8]) -> usize
     let last = run.len() / 6 - 1;
     let mut moment = 0;
     let mut end = 0;
-    let mut i = 0;
-    while i < last {
+    for i in 0..last {
         let duration = duration_at(run, i);
         end = put_step(
             state_at(run, i),
@@ -97,7 +96,6 @@ pub fn list_run(run: &[u8], all: bool, c: u32, out: &mut [u8]) -> usize
             out,
         );
         moment += duration;
-        i += 1;
     }
-    put_end(all, c as usize, state_at(run, i), moment, end, out)
+    put_end(all, c as usize, state_at(run, last), moment, end, out)
 }

@@ -4,7 +4,6 @@
 ghost use Rattle.std.specs.Prelude.{◌≡◌, ◌<◌};
 ghost use Rattle.append.specs.Piece.{Room, Appended};
 ghost use Rattle.chart.specs.Bytes.{arrow_of, most_of};
-ghost use Rattle.chart.specs.Shape.{Passed};
 ghost use Rattle.shown.specs.Shown.{place};
 ghost use Rattle.shown.specs.Steps.{longest_of};
 ghost use Rattle.step_table.specs.Table.{RowLow};
@@ -13,25 +12,18 @@ ghost use Rattle.step_numbers.specs.Target.{pick_of, Capped};
 ghost use Rattle.run_walk.specs.RunBytes.{position_bytes, run_bytes};
 ghost use Rattle.run_walk.specs.Walk.{tight_arrow, walk_on, Walkable};
 
+use arrows::Chart;
 use chart::ArrowWords;
 use step_numbers::Measure;
-
-// The most states and the most arrows of a chart.
-const STATES: usize = 256;
-
-const ARROWS: usize = 2048;
 
 // The most minutes of a slot; with no end as many as the cap.
 fn longest_of(cap: u32, fewest: u32, most: u32) -> u32
     ensures { result ≡ longest_of cap fewest (most_of most) }
 {
-    if !chart::no_end(most) {
-        return most;
+    if chart::no_end(most) {
+        return cap.max(fewest);
     }
-    if cap < fewest {
-        return fewest;
-    }
-    cap
+    most
 }
 
 // The minutes that an arrow is taken in.
@@ -56,23 +48,22 @@ pub fn put_position(state: usize, duration: u32, at: usize, out: &mut [u8]) -> u
 // The lowest arrow from s that makes just the number of s in the row after the one at `at`; 0 if none does.
 fn tight_arrow(
     measure: Measure,
-    chart: &[u8],
-    n: usize,
-    m: usize,
+    chart: Chart,
     firsts: &[u32],
     nexts: &[u32],
     at: usize,
     s: usize,
     table: &[u32],
 ) -> usize
-    requires { Passed chart.now n m × Linked chart.now n m 0 firsts.now nexts.now × Capped measure ×
-        RowLow n at table.now × (s < n) }
-    ensures { (result ≡ tight_arrow measure chart.now n table.now at s) × (result < m) }
+    requires { Linked chart.bytes.now chart.states chart.arrows 0 firsts.now nexts.now
+        × Capped measure × RowLow chart.states at table.now × (s < chart.states) }
+    ensures { (result ≡ tight_arrow measure chart.entry.bytes.now chart.entry.states table.now at s)
+        × (result < chart.entry.arrows) }
 {
-    let number = table[at + n + s];
+    let number = table[at + chart.states + s];
     let mut i = firsts[s] as usize;
-    while i < m {
-        let a = arrows::arrow(chart, n, i);
+    while i < chart.arrows {
+        let a = chart.arrow(i);
         let end = a.end;
         let sum = table[at + end] + step_numbers::weight(measure, a);
         if step_numbers::settled(measure, sum) == number {
@@ -86,9 +77,7 @@ fn tight_arrow(
 // The walk of k steps from s, as bytes, by the links of the arrows.
 fn follow(
     measure: Measure,
-    chart: &[u8],
-    n: usize,
-    m: usize,
+    chart: Chart,
     firsts: &[u32],
     nexts: &[u32],
     k: usize,
@@ -96,18 +85,25 @@ fn follow(
     table: &[u32],
     out: &mut [u8],
 ) -> usize
-    requires { Walkable measure chart.now n m k s table.now out.old ×
-        Linked chart.now n m 0 firsts.now nexts.now }
-    ensures { Appended 0 (run_bytes (walk_on measure chart.now n table.now k s)) result
+    requires { Walkable measure chart.bytes.now chart.states chart.arrows k s table.now out.old ×
+        Linked chart.bytes.now chart.states chart.arrows 0 firsts.now nexts.now }
+    ensures { Appended 0
+        (run_bytes (walk_on measure chart.entry.bytes.now chart.entry.states table.now k s)) result
         out.old out.new }
 {
     let mut state = s;
-    let mut left = k;
     let mut end = 0;
-    while 0 < left {
-        left -= 1;
-        let i = tight_arrow(measure, chart, n, m, firsts, nexts, left * n, state, table);
-        let a = arrows::arrow(chart, n, i);
+    for left in (0..k).rev() {
+        let i = tight_arrow(
+            measure,
+            chart,
+            firsts,
+            nexts,
+            left * chart.states,
+            state,
+            table,
+        );
+        let a = chart.arrow(i);
         end = put_position(state, pick(measure, a), end, out);
         state = a.end;
     }
@@ -117,20 +113,19 @@ fn follow(
 // The walk of k steps from s, as bytes.
 pub fn write_walk(
     measure: Measure,
-    chart: &[u8],
-    n: usize,
-    m: usize,
+    chart: Chart,
     k: usize,
     s: usize,
     table: &[u32],
     out: &mut [u8],
 ) -> usize
-    requires { Walkable measure chart.now n m k s table.now out.old }
-    ensures { Appended 0 (run_bytes (walk_on measure chart.now n table.now k s)) result
+    requires { Walkable measure chart.bytes.now chart.states chart.arrows k s table.now out.old }
+    ensures { Appended 0
+        (run_bytes (walk_on measure chart.entry.bytes.now chart.entry.states table.now k s)) result
         out.old out.new }
 {
-    let mut firsts = [0; STATES];
-    let mut nexts = [0; ARROWS];
-    arrow_links::link(chart, n, m, &mut firsts, &mut nexts);
-    follow(measure, chart, n, m, &firsts, &nexts, k, s, table, out)
+    let mut firsts = [0; arrow_links::STATES];
+    let mut nexts = [0; arrow_links::ARROWS];
+    arrow_links::link(chart, &mut firsts, &mut nexts);
+    follow(measure, chart, &firsts, &nexts, k, s, table, out)
 }

@@ -65,9 +65,9 @@ module _ {counting : Bool} {chart : List ℕ} {n m : ℕ} {rule : List ℕ} {t :
       (subst (λ v. Settled chart n rule v.a marks mid) b.node.read x)
 
   pub both_below :
-      {one mid : List ℕ} → 2 ≤ w.operation → ¬ (w.operation ≡ 2) →
+      {one mid : List ℕ} → 3 ≤ w.operation →
       Settled chart n rule w.a marks one → Settled chart n rule w.b one mid → Below chart n rule t marks mid
-  both_below {one} {mid} h k x y =
+  both_below {one} {mid} h x y =
       below_both passed b.node.low (omega (arith, operation_is))
       (subst (λ v. Settled chart n rule v.a marks one) b.node.read x)
       (subst (λ v. Settled chart n rule v.b one mid) b.node.read y)

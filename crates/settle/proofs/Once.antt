@@ -11,7 +11,7 @@ use Rattle.base.specs.Sum.{sum}
 use Rattle.base.proofs.Sum.{sum_same, sum_add, sum_zero, sum_cond, sum_one}
 use Rattle.rule.specs.Bytes.{node_count, node_words}
 use Rattle.rule.specs.Refusals.{uses, uses_in}
-use Rattle.rule.proofs.Operation.{uses_by}
+use Rattle.rule.proofs.FormOf.{uses_by}
 use Rattle.rule.proofs.Accepted.{AcceptedRule, lower_a, lower_b}
 use Rattle.settle.specs.TimesSettled.{times_settled}
 use Rattle.settle.proofs.TimesSettled.{times_settled_at}

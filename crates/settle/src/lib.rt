@@ -6,30 +6,29 @@ ghost use Rattle.rule.specs.Refusals.{minutely};
 ghost use Rattle.nodes.specs.Right.{Workable, AcceptedNode};
 ghost use Rattle.settle.specs.Settled.{Settled};
 
+use arrows::Chart;
+use rule::operation::Operation;
+
 pub fn settle(
     counting: bool,
-    chart: &[u8],
-    n: usize,
-    m: usize,
+    chart: Chart,
     rule: &[u8],
     t: usize,
     marks: &mut [u8],
     numbers: &mut [u32],
 )
-    requires { Workable counting (minutely counting rule.now) chart.now n m t marks.old numbers.old ×
-        AcceptedNode counting rule.now t }
-    ensures { Settled chart.now n rule.now t marks.old marks.new }
+    requires { Workable counting (minutely counting rule.now) chart.bytes.now chart.states
+        chart.arrows t marks.old numbers.old × AcceptedNode counting rule.now t }
+    ensures { Settled chart.entry.bytes.now chart.entry.states rule.now t marks.old marks.new }
 {
     let node = rule::node_at(rule, t);
-    if node.operation < rule::NOT {
-        nodes::settle_node(counting, chart, n, m, rule, t, marks, numbers);
-        return;
+    match node.known_operation() {
+        Operation::True | Operation::Label => {}
+        Operation::Not => settle(counting, chart, rule, node.a, marks, numbers),
+        Operation::And | Operation::Or | Operation::SomeUntil | Operation::AllUntil => {
+            settle(counting, chart, rule, node.a, marks, numbers);
+            settle(counting, chart, rule, node.b, marks, numbers);
+        }
     }
-    settle(counting, chart, n, m, rule, node.a, marks, numbers);
-    if node.operation == rule::NOT {
-        nodes::settle_node(counting, chart, n, m, rule, t, marks, numbers);
-        return;
-    }
-    settle(counting, chart, n, m, rule, node.b, marks, numbers);
-    nodes::settle_node(counting, chart, n, m, rule, t, marks, numbers);
+    nodes::settle_node(counting, chart, rule, t, marks, numbers);
 }

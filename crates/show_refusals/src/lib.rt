@@ -2,12 +2,14 @@
 #![tactic(auto)]
 
 ghost use Rattle.std.specs.Prelude.{◌≡◌, ◌≤◌};
+ghost use Rattle.outcome.specs.Answer.{answer};
 ghost use Rattle.outcome.specs.Refusal.{first};
 ghost use Rattle.show_refusals.specs.Fits.{table_size};
 ghost use Rattle.show_refusals.specs.Rows.{is_shown_by, mark_rows, MarksLent};
 
-use outcome::Outcome;
+use outcome::{Fault, Refusal};
 use rule::NodeWords;
+use rule::operation::Operation;
 
 // How many numbers the table takes for n states.
 pub fn table_size(n: usize) -> usize
@@ -21,19 +23,15 @@ pub fn table_size(n: usize) -> usize
 fn is_showable(w: NodeWords, marked: bool) -> bool
     ensures { result ≡ is_shown_by w marked }
 {
-    if w.operation == rule::SOME_UNTIL {
-        return marked;
+    match Operation::try_from(w.operation) {
+        Ok(Operation::SomeUntil) => marked,
+        Ok(Operation::AllUntil) => w.kind == rule::AT_MOST && !marked,
+        _ => false,
     }
-    if w.operation != rule::ALL_UNTIL {
-        return false;
-    }
-    if w.kind != rule::AT_MOST {
-        return false;
-    }
-    !marked
 }
 
 // Rows 60 and 61.
+#[tactic(auto, using(std::proofs::lemmas::Bool::Decides::nat_tests), unfolding(outcome::specs::Refusal::first))]
 pub fn mark_refusal(
     n: usize,
     rule: &[u8],
@@ -42,22 +40,19 @@ pub fn mark_refusal(
     scratch: &[u32],
     node: usize,
     state: usize,
-) -> Outcome
+) -> Result<(), Refusal>
     requires { MarksLent n rule.now k marks.now }
-    ensures { result ≡ first (mark_rows n rule.now k marks.now scratch.now node state) }
+    ensures { answer result ≡ first (mark_rows n rule.now k marks.now scratch.now node state) }
 {
-    if k <= node {
-        return outcome::refused(outcome::NOT_SHOWABLE, 0);
-    }
-    if n <= state {
-        return outcome::refused(outcome::NOT_SHOWABLE, 0);
+    if k <= node || n <= state {
+        return Err(Fault::NotShowable.at(0));
     }
     let w = rule::node_at(rule, node);
     if !is_showable(w, marks[node * n + state] == 1) {
-        return outcome::refused(outcome::NOT_SHOWABLE, 0);
+        return Err(Fault::NotShowable.at(0));
     }
     if scratch.len() < table_size(n) {
-        return outcome::refused(outcome::TABLE_SCRATCH, 0);
+        return Err(Fault::TableScratch.at(0));
     }
-    outcome::accepted()
+    Ok(())
 }

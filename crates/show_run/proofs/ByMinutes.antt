@@ -2,6 +2,7 @@
 use mathlib.Core.Path.{◌≡◌, refl, sym, ap, ◌∙◌}
 use mathlib.Core.List.{List}
 use mathlib.Core.Option.{some}
+use Rattle.std.specs.Prelude.{None, Some}
 use Prim.Native.Nat.{ℕ, suc, ◌+◌, ◌*◌, ◌≤◌, ◌<◌}
 use native.Mathlib.Omega.{arith}
 use lib.ListN.{length}
@@ -55,7 +56,7 @@ module _
   pub minutes_low : left_in n new c s ≤ 257
   minutes_low = omega (arith, is, left_low arrows (flag p) (flag q) c s)
 
-  pub minutes_none : 256 < left_in n new c s → {old : List ℕ} → Ran chart (by_minutes c (flag p) (flag q)) s 0 old old
+  pub minutes_none : 256 < left_in n new c s → {old : List ℕ} → Ran chart (by_minutes c (flag p) (flag q)) s None old old
   minutes_none l = none_found chart z s (left_none arrows (flag p) (flag q) c s (omega (arith, is)))
 
   module _ (l : left_in n new c s ≤ 256) where
@@ -63,7 +64,7 @@ module _
     few = left_found arrows (flag p) (flag q) c s (omega (arith, is)) ∙ ap some (sym is)
 
     pub minutes_long :
-        {old : List ℕ} → length old < 6 * (left_in n new c s + 1) → Ran chart (by_minutes c (flag p) (flag q)) s 0 old old
+        {old : List ℕ} → length old < 6 * (left_in n new c s + 1) → Ran chart (by_minutes c (flag p) (flag q)) s None old old
     minutes_long = too_long chart z s few
 
     module _ {old : List ℕ} (i : 6 * (left_in n new c s + 1) ≤ length old) where
@@ -81,7 +82,7 @@ module _
 
       pub minutes_walked :
           {r : ℕ} {out : List ℕ} → Appended 0 (run_bytes (walk_in chart n new (left_in n new c s) c s)) r old out →
-          Ran chart (by_minutes c (flag p) (flag q)) s r old out
+          Ran chart (by_minutes c (flag p) (flag q)) s (Some r) old out
       minutes_walked a =
           let same : walk_in chart n new k c s ≡ walk_down arrows (reaches arrows (flag p) (flag q)) k c s =
           walk_by_numbers arrows (flag p) (flag q) joins (left_in n new) are k c s (omega arith) inside (sym is)

@@ -1,14 +1,13 @@
 -- The run by steps: the target is fair, and the walk down the rows that were found is the model's.
-use mathlib.Core.Path.{◌≡◌, ap, subst, ◌∙◌}
-use mathlib.Core.Bool.{cond}
+use mathlib.Core.Path.{◌≡◌, ap, subst}
 use mathlib.Core.List.{List}
-use mathlib.Core.Option.{none, some}
+use Rattle.std.specs.Prelude.{None, Some}
 use Prim.Native.Nat.{ℕ, suc, ◌+◌, ◌*◌, ◌≤◌, ◌<◌, ◌/◌, ◌%◌}
 use native.Mathlib.Omega.{arith}
 use native.Mathlib.Nat.{div-add-mod', mod-lt, div-lt_iff_lt-mul, mul-le-mul_right}
 use lib.ListN.{length}
 use lib.Dec.{eqb}
-use borrow.Author.Tests.{lt-leb, le-leb, leb-true}
+use borrow.Author.Tests.{leb-true}
 use Rattle.base.proofs.Truth.{cond_elim}
 use Rattle.tctl.specs.Chart.{Arrow, Most, up_to, no_end}
 use Rattle.model.specs.Engine.{num}
@@ -80,33 +79,29 @@ module _
     {p q : List ℕ}
     {s : ℕ}
     {table : List ℕ}
-    (h : TableReady target chart n m p q s table)
-    {k : ℕ}
-    {new : List ℕ}
-    (f : Found target chart n p q s k new) where
+    (h : TableReady target chart n m p q s table) where
   abbrev z : Quest
   z = quest_for target (flag p) (flag q)
 
   abbrev arrows : List Arrow
   arrows = (chart_of chart).arrows
 
-  pub steps_none : 256 < k → {old : List ℕ} → Ran chart (by_steps (quest_for target (flag p) (flag q))) s 0 old old
-  steps_none l = none_found chart (by_steps z) s (f.answer ∙ ap (λ b. cond b (some k) none) (lt-leb k 256 l))
+  pub steps_none :
+      {new old : List ℕ} → Found target chart n p q s None new →
+      Ran chart (by_steps (quest_for target (flag p) (flag q))) s None old old
+  steps_none f = none_found chart (by_steps z) s f.answer
 
-  module _ (l : k ≤ 256) where
-    few : fewest_steps arrows (by_steps z) s ≡ some k
-    few = f.answer ∙ ap (λ b. cond b (some k) none) (le-leb k 256 l)
-
+  module _ {k : ℕ} {new : List ℕ} (f : Found target chart n p q s (Some k) new) where
     pub steps_long :
         {old : List ℕ} → length old < 6 * (k + 1) →
-        Ran chart (by_steps (quest_for target (flag p) (flag q))) s 0 old old
-    steps_long = too_long chart (by_steps z) s few
+        Ran chart (by_steps (quest_for target (flag p) (flag q))) s None old old
+    steps_long = too_long chart (by_steps z) s f.answer
 
     -- what is enough is not 0
     some_way : 1 ≤ by_step arrows z k s
     unfolding fewest_steps
     some_way =
-        let passes = (some_lowest (enough arrows z s) 257 k few).offends in
+        let passes = (some_lowest (enough arrows z s) 257 k f.answer).offends in
         omega (arith, leb-true z.need (by_step arrows z k s) passes, h.fair.some)
 
     brief : (i : ℕ) → duration_at (walk arrows z k s) i ≤ highest
@@ -119,7 +114,7 @@ module _
       -- a place of rows 0 to k is one of a row
       pub walkable : length new ≡ length table → Walkable target.measure chart n m k s new old
       walkable e =
-          let all : suc k * n ≤ 257 * n = mul-le-mul_right n (omega arith) in
+          let all : suc k * n ≤ 257 * n = mul-le-mul_right n (omega (arith, f.most)) in
           record {
             passed = h.passed;
             capped = h.fair.capped;
@@ -130,15 +125,15 @@ module _
                 let some : 0 < n = omega (arith, h.state) in
                 let row = (div-lt_iff_lt-mul some).1 v in
                 subst (λ x. num new x ≤ live + highest) at
-                (tabled_low target chart p q h.passed h.fair new (f.rows l) (j / n) (j % n) (omega arith)
+                (tabled_low target chart p q h.passed h.fair new f.rows (j / n) (j % n) (omega arith)
                 (mod-lt j some));
             room = omega arith;
           }
 
       pub steps_walked :
           {r : ℕ} {out : List ℕ} → Appended 0 (run_bytes (walk_on target.measure chart n new k s)) r old out →
-          Ran chart (by_steps (quest_for target (flag p) (flag q))) s r old out
+          Ran chart (by_steps (quest_for target (flag p) (flag q))) s (Some r) old out
       steps_walked a =
           let same : walk_on target.measure chart n new k s ≡ walk arrows z k s =
-          walk_on_lem target (flag p) (flag q) h.passed h.fair f.slots new k s (f.rows l) some_way h.state in
-          walked chart (by_steps z) s few i brief (appended_text (ap run_bytes same) a)
+          walk_on_lem target (flag p) (flag q) h.passed h.fair f.slots new k s f.rows some_way h.state in
+          walked chart (by_steps z) s f.answer i brief (appended_text (ap run_bytes same) a)

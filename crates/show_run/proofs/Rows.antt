@@ -5,6 +5,7 @@ use mathlib.Core.List.{List}
 use Prim.Native.Nat.{ℕ, ◌+◌, ◌-◌, ◌*◌}
 use native.Mathlib.Omega.{arith}
 use lib.ListN.{take, drop}
+use Rattle.std.specs.Prelude.{Option}
 use Rattle.model.specs.Marks.{flag}
 use Rattle.rule.specs.declared.NodeWords.{NodeWords}
 use Rattle.rule.specs.Refusals.{is_exact}
@@ -28,20 +29,20 @@ module _ (n : ℕ) (marks : List ℕ) (w : NodeWords) where
 
   -- a run by the rows as lent is one by the node's search
   ran_lent :
-      {z : Search} {chart old new : List ℕ} {s r : ℕ} → z ≡ search_by w p q → Ran chart z s r old new →
+      {z : Search} {chart old new : List ℕ} {s : ℕ} {r : Option ℕ} → z ≡ search_by w p q → Ran chart z s r old new →
       Ran chart (search_in n marks w) s r old new
   ran_lent {chart = chart} {old} {new} {s} {r} e =
       subst (λ z. Ran chart z s r old new)
       (e ∙ ap₂ (λ x y. search_by w (flag x) (flag y)) (row_lent n marks w.a) (row_lent n marks w.b))
 
   pub ran_minutes :
-      is_exact w ≡ true → {chart old new : List ℕ} {s r : ℕ} →
+      is_exact w ≡ true → {chart old new : List ℕ} {s : ℕ} {r : Option ℕ} →
       Ran chart (by_minutes w.c (flag (lent (w.a * n) n marks)) (flag (lent (w.b * n) n marks))) s r old new →
       Ran chart (search_in n marks w) s r old new
   ran_minutes e = ran_lent (ap (λ b. cond b (by_minutes w.c p q) (by_steps (quest_for (target_of w) p q))) (sym e))
 
   pub ran_steps :
-      is_exact w ≡ false → {target : Target} → target ≡ target_of w → {chart old new : List ℕ} {s r : ℕ} →
+      is_exact w ≡ false → {target : Target} → target ≡ target_of w → {chart old new : List ℕ} {s : ℕ} {r : Option ℕ} →
       Ran chart (by_steps (quest_for target (flag (lent (w.a * n) n marks)) (flag (lent (w.b * n) n marks)))) s r old new →
       Ran chart (search_in n marks w) s r old new
   ran_steps e f =

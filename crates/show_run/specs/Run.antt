@@ -1,5 +1,7 @@
 -- What is looked for at a node that can be shown, by the words of its until, and the run that is written for it.
 use Rattle.std.specs.Prelude.{◌≡◌, Bool, true, false, cond, List, [], ℕ, suc, ◌+◌, ◌*◌, ◌≤◌, ◌<◌, length, take, drop, eqb, ltb}
+use Rattle.std.specs.Prelude.{Option as Returned, IfSome}
+use Rattle.std.specs.Option.{unwrap_or}
 use Rattle.std.proofs.Math.Option.{Option, none, some}
 use Rattle.tctl.specs.Chart.{Arrow}
 use Rattle.model.specs.Marks.{flag}
@@ -69,7 +71,9 @@ pub record Searchable
   pub inside : state < n
   pub room : table_size n ≤ length table
 
--- that run stands at the front, and none of its durations is above the highest number that is asked for
-pub record Ran (chart : List ℕ) (z : Search) (state r : ℕ) (old new : List ℕ) : Type 0 where
-  pub front : AtFront (run_bytes (run_in (chart_of chart).arrows z state (length old))) r old new
+-- that run stands at the front, r its size if there is one, and none of its durations is above the highest number that
+-- is asked for
+pub record Ran (chart : List ℕ) (z : Search) (state : ℕ) (r : Returned ℕ) (old new : List ℕ) : Type 0 where
+  pub front : AtFront (run_bytes (run_in (chart_of chart).arrows z state (length old))) (unwrap_or r 0) old new
+  pub written : IfSome r (λ size. 1 ≤ size)
   pub brief : (i : ℕ) → duration_at (run_in (chart_of chart).arrows z state (length old)) i ≤ highest

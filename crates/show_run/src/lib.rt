@@ -10,6 +10,7 @@ ghost use Rattle.step_table.specs.Table.{TableReady};
 ghost use Rattle.exact_table.specs.Rows.{StepsReady};
 ghost use Rattle.show_run.specs.Run.{target_of, search_in, Searchable, Ran};
 
+use arrows::Chart;
 use rule::NodeWords;
 use step_numbers::{Measure, Target};
 
@@ -44,102 +45,93 @@ fn target_of(w: NodeWords) -> Target
     }
 }
 
-// The shortest run is found by steps and written if it fits: how many bytes it takes, else 0.
+// The shortest run is found by steps and written if it fits: how many bytes it takes.
 fn find_by_steps(
     target: Target,
-    chart: &[u8],
-    n: usize,
-    m: usize,
+    chart: Chart,
     p: &[u8],
     q: &[u8],
     state: usize,
     table: &mut [u32],
     output: &mut [u8],
-) -> usize
-    requires { TableReady target chart.now n m p.now q.now state table.old }
-    ensures { Ran chart.now (by_steps (quest_for target (flag p.now) (flag q.now)))
+) -> Option<usize>
+    requires { TableReady target chart.bytes.now chart.states chart.arrows p.now q.now state
+        table.old }
+    ensures { Ran chart.entry.bytes.now (by_steps (quest_for target (flag p.now) (flag q.now)))
         state result output.old output.new }
 {
-    let measure = target.measure;
-    let k = step_table::fewest_steps(target, chart, n, m, p, q, state, table);
-    if step_table::MOST_STEPS < k {
-        return 0;
-    }
+    let k = step_table::fewest_steps(target, chart, p, q, state, table)?;
     if output.len() < 6 * (k + 1) {
-        return 0;
+        return None;
     }
-    run_walk::write_walk(measure, chart, n, m, k, state, table, output)
+    let measure = target.measure;
+    Some(run_walk::write_walk(measure, chart, k, state, table, output))
 }
 
 // The same by minutes, for an E-until, exactly c.
 fn find_by_minutes(
-    chart: &[u8],
-    n: usize,
-    m: usize,
+    chart: Chart,
     c: usize,
     p: &[u8],
     q: &[u8],
     state: usize,
     table: &mut [u32],
     output: &mut [u8],
-) -> usize
-    requires { StepsReady chart.now n m c p.now q.now table.old × (state < n) }
-    ensures { Ran chart.now (by_minutes c (flag p.now) (flag q.now)) state result
+) -> Option<usize>
+    requires { StepsReady chart.bytes.now chart.states chart.arrows c p.now q.now table.old
+        × (state < chart.states) }
+    ensures { Ran chart.entry.bytes.now (by_minutes c (flag p.now) (flag q.now)) state result
         output.old output.new }
 {
-    exact_table::fill_steps(chart, n, m, c, p, q, table);
-    let k = table[c * n + state];
+    exact_table::fill_steps(chart, c, p, q, table);
+    let k = table[c * chart.states + state];
     if step_table::MOST_STEPS < k as usize {
-        return 0;
+        return None;
     }
     if output.len() < 6 * (k as usize + 1) {
-        return 0;
+        return None;
     }
-    exact_walk::write_walk(chart, n, m, c, k, state, table, output)
+    Some(exact_walk::write_walk(chart, c, k, state, table, output))
 }
 
 // The same as the node asks, by the rows of its operands.
 fn find_run(
-    chart: &[u8],
-    n: usize,
-    m: usize,
+    chart: Chart,
     w: NodeWords,
     marks: &[u8],
     state: usize,
     table: &mut [u32],
     output: &mut [u8],
-) -> usize
-    requires { Searchable chart.now n m w marks.now state table.old }
-    ensures { Ran chart.now (search_in n marks.now w) state result output.old
-        output.new }
+) -> Option<usize>
+    requires { Searchable chart.bytes.now chart.states chart.arrows w marks.now state table.old }
+    ensures { Ran chart.entry.bytes.now (search_in chart.entry.states marks.now w) state result
+        output.old output.new }
 {
-    let left = w.a * n;
-    let right = w.b * n;
-    let p = &marks[left..left + n];
-    let q = &marks[right..right + n];
+    let left = w.a * chart.states;
+    let right = w.b * chart.states;
+    let p = &marks[left..left + chart.states];
+    let q = &marks[right..right + chart.states];
     if w.kind == rule::EXACTLY {
-        return find_by_minutes(chart, n, m, w.c as usize, p, q, state, table, output);
+        return find_by_minutes(chart, w.c as usize, p, q, state, table, output);
     }
-    find_by_steps(target_of(w), chart, n, m, p, q, state, table, output)
+    find_by_steps(target_of(w), chart, p, q, state, table, output)
 }
 
 // The same in the first numbers of scratch, which are cleared afterwards.
 pub fn write_run(
-    chart: &[u8],
-    n: usize,
-    m: usize,
+    chart: Chart,
     w: NodeWords,
     marks: &[u8],
     state: usize,
     scratch: &mut [u32],
     output: &mut [u8],
-) -> usize
-    requires { Searchable chart.now n m w marks.now state scratch.old }
-    ensures { Ran chart.now (search_in n marks.now w) state result output.old
-        output.new × (scratch.new ≡ table_cleared n scratch.old) }
+) -> Option<usize>
+    requires { Searchable chart.bytes.now chart.states chart.arrows w marks.now state scratch.old }
+    ensures { Ran chart.entry.bytes.now (search_in chart.entry.states marks.now w) state result
+        output.old output.new × (scratch.new ≡ table_cleared chart.entry.states scratch.old) }
 {
-    let size = show_refusals::table_size(n);
-    let written = find_run(chart, n, m, w, marks, state, &mut scratch[..size], output);
+    let size = show_refusals::table_size(chart.states);
+    let written = find_run(chart, w, marks, state, &mut scratch[..size], output);
     loops::clear(&mut scratch[..size]);
     written
 }

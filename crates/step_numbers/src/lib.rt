@@ -1,11 +1,11 @@
 // The numbers of the table by steps: what is looked for, and how numbers are stored.
 #![tactic(auto)]
 
-ghost use Rattle.std.specs.Prelude.{◌≡◌, cond, ◌-◌, ◌≤◌, max};
+ghost use Rattle.std.specs.Prelude.{◌≡◌, ◌≤◌};
 ghost use Rattle.chart.specs.Bytes.{arrow_of, most_of};
 ghost use Rattle.chart.specs.Shape.{Slot};
 ghost use Rattle.step_numbers.specs.Target.{highest, go_of, base_of, Capped};
-ghost use Rattle.step_numbers.specs.Stored.{raised_of, stored_of, heft, weight_of, capped_of, settled_of};
+ghost use Rattle.step_numbers.specs.Stored.{stored_of, heft, weight_of, settled_of};
 
 use chart::ArrowWords;
 
@@ -56,44 +56,14 @@ pub fn base(all: bool, full: u32, p: bool, q: bool) -> u32
     0
 }
 
-pub fn greater(x: u32, y: u32) -> u32
-    ensures { result ≡ max x y }
-{
-    if x < y {
-        return y;
-    }
-    x
-}
-
-// The number v of a state that it goes on from, else 0.
-pub fn kept(go: bool, v: u32) -> u32
-    ensures { result ≡ cond go v 0 }
-{
-    if go {
-        return v;
-    }
-    0
-}
-
-// A number of 1 at least, above `LIVE`.
-fn raised(v: u32) -> u32
-    requires { v ≤ highest }
-    ensures { result ≡ raised_of v }
-{
-    if v == 0 {
-        return 0;
-    }
-    LIVE + v
-}
-
-// The number v as it is stored.
+// The number v as it is stored: of greatest minutes one of 1 at least above `LIVE`.
 pub fn stored(measure: Measure, v: u32) -> u32
     requires { v ≤ highest }
     ensures { result ≡ stored_of measure v }
 {
     match measure {
-        Measure::Least => v,
-        Measure::Greatest(_cap) => raised(v),
+        Measure::Greatest(_) if 0 < v => LIVE + v,
+        _ => v,
     }
 }
 
@@ -114,41 +84,18 @@ pub fn weight(measure: Measure, a: ArrowWords) -> u32
 {
     match measure {
         Measure::Least => 65535 - a.fewest,
-        Measure::Greatest(_cap) => heft_of(a.most),
+        Measure::Greatest(_) => heft_of(a.most),
     }
 }
 
-// What is left of v without 65,535.
-fn lessened(v: u32) -> u32
-    ensures { result ≡ v - 65535 }
-{
-    if v < 65535 {
-        return 0;
-    }
-    v - 65535
-}
-
-// The stored number v, up to the cap.
-fn capped(cap: u32, v: u32) -> u32
-    requires { cap ≤ highest }
-    ensures { result ≡ capped_of cap v }
-{
-    if v <= LIVE {
-        return 0;
-    }
-    if LIVE + cap < v {
-        return LIVE + cap;
-    }
-    v
-}
-
-// The number that a sum stands for, as it is stored.
+// The number that a sum stands for, as it is stored: without 65,535, or up to the cap.
 pub fn settled(measure: Measure, v: u32) -> u32
     requires { Capped measure }
     ensures { result ≡ settled_of measure v }
 {
     match measure {
-        Measure::Least => lessened(v),
-        Measure::Greatest(cap) => capped(cap, v),
+        Measure::Least => v.saturating_sub(65535),
+        Measure::Greatest(_) if v <= LIVE => 0,
+        Measure::Greatest(cap) => v.min(LIVE + cap),
     }
 }

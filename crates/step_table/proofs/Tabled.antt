@@ -1,16 +1,18 @@
 -- The rows of the table one after another, and the first that is enough.
-use mathlib.Core.Path.{◌≡◌, sym, ap, subst, ◌∙◌}
+use mathlib.Core.Path.{◌≡◌, refl, sym, ap, subst, ◌∙◌}
 use mathlib.Core.Logic.{inl, by_cases}
 use mathlib.Core.Bool.{Bool, true, false, cond}
 use mathlib.Core.List.{List, Memᴰ}
-use mathlib.Core.Option.{none, some}
 use Prim.Native.Nat.{ℕ, suc, ◌+◌, ◌*◌, ◌≤◌, ◌<◌}
 use native.Mathlib.Omega.{arith}
 use native.Mathlib.Decide.{dec_le}
 use native.Mathlib.Nat.{suc-mul, mul-le-mul_right}
 use lib.ListN.{length}
-use lib.Dec.{eqb}
-use borrow.Author.Tests.{le-leb, lt-leb}
+use lib.Dec.{eqb, leb}
+use borrow.Author.Tests.{le-leb, lt-leb, leb-true, leb-false}
+use borrow.Author.Count.{below_more}
+use Rattle.std.specs.Prelude.{Option, Some, None}
+use Rattle.std.specs.Bool.{then_some}
 use Rattle.base.specs.Entries.{Entries}
 use Rattle.outcome.proofs.Lowest.{Least, lowest_some, lowest_none}
 use Rattle.tctl.specs.Chart.{Arrow, states}
@@ -153,27 +155,52 @@ module _ (target : Target) (chart : List ℕ) {n m : ℕ} (p q : List ℕ) (pass
     pub found_first :
         {k : ℕ} (table : List ℕ) → Slots chart → k ≤ 256 → Tabled (chart_of chart) measure z n k table →
         stored_of measure target.need ≤ num table (k * n + s) →
-        ((j : ℕ) → j < k → enough (chart_of chart).arrows z s j ≡ false) → Found target chart n p q s k table
+        ((j : ℕ) → j < k → enough (chart_of chart).arrows z s j ≡ false) → Found target chart n p q s (Some k) table
     unfolding fewest_steps
     found_first {k} table slots few rows l under =
         let least : Least (enough (chart_of chart).arrows z s) 257 k =
         record { inside = omega arith; offends = enough_yes table rows l; under = under } in
         record {
-          answer =
-              lowest_some (enough (chart_of chart).arrows z s) least ∙
-              ap (λ b. cond b (some k) none) (sym (le-leb k 256 few));
+          answer = lowest_some (enough (chart_of chart).arrows z s) least;
+          most = few;
           slots = slots;
-          rows = λ h. rows;
+          rows = rows;
         }
 
     -- no row up to the last is enough
-    pub found_none :
+    found_none :
         (table : List ℕ) → Slots chart → ((j : ℕ) → j < 257 → enough (chart_of chart).arrows z s j ≡ false) →
-        Found target chart n p q s 257 table
+        Found target chart n p q s None table
     unfolding fewest_steps
     found_none table slots none_is =
         record {
           answer = lowest_none (enough (chart_of chart).arrows z s) 257 none_is;
+          most = tt;
           slots = slots;
-          rows = λ h. absurd (let z : ⊥ = omega arith in z);
+          rows = tt;
         }
+
+    -- The last row is enough, or none is.
+    pub found_last :
+        {k : ℕ} (table : List ℕ) → Slots chart → k ≡ 256 → Tabled (chart_of chart) measure z n k table →
+        ((j : ℕ) → j < k → enough (chart_of chart).arrows z s j ≡ false) →
+        (need : ℕ) → need ≡ stored_of measure target.need → {r : Option ℕ} →
+        r ≡ then_some (leb need (num table (256 * n + s))) 256 → Found target chart n p q s r table
+    found_last {k} table slots last rows under need is {r} e =
+        subst (λ r. Found target chart n p q s r table) (sym e) (turn (leb need there) refl)
+      where
+        there : ℕ
+        there = num table (256 * n + s)
+
+        row : Tabled (chart_of chart) measure z n 256 table
+        row = subst (λ k. Tabled (chart_of chart) measure z n k table) last rows
+
+        before : (j : ℕ) → j < 256 → enough (chart_of chart).arrows z s j ≡ false
+        before j l = under j (omega arith)
+
+        turn : (b : Bool) → leb need there ≡ b → Found target chart n p q s (then_some b 256) table
+        turn true l =
+            found_first table slots (omega arith) row (omega (arith, leb-true need there l)) before
+        turn false l =
+            found_none table slots
+            (below_more _ 256 before (enough_not table row (omega (arith, leb-false need there l))))

@@ -1,6 +1,7 @@
 -- Rows of numbers that are written one after another, and what the functions promise of them.
-use Rattle.std.specs.Prelude.{◌≡◌, cond, List, ℕ, ◌+◌, ◌*◌, ◌≤◌, ◌<◌, max, length, set, eqb, leb}
-use Rattle.std.proofs.Math.Option.{Option, none, some}
+use Rattle.std.specs.Prelude.{Option, MatchOption, IfSome}
+use Rattle.std.specs.Prelude.{◌≡◌, cond, List, ℕ, ◌+◌, ◌*◌, ◌≤◌, ◌<◌, max, length, set, eqb}
+use Rattle.std.proofs.Math.Option.{none, some}
 use Rattle.base.specs.Entries.{Entries}
 use Rattle.tctl.specs.Chart.{Chart, Arrow}
 use Rattle.model.specs.Engine.{num}
@@ -87,12 +88,19 @@ pub record TableReady (target : Target) (chart : List ℕ) (n m : ℕ) (p q : Li
   pub state : s < n
   pub room : 257 * n ≤ length table
 
--- a number of steps, if it is one of those that are shown
-abbrev pub at_most256 : ℕ → Option ℕ
-at_most256 r = cond (leb r 256) (some r) none
-
--- r are the fewest steps from s, and the rows up to r are in the table
-pub record Found (target : Target) (chart : List ℕ) (n : ℕ) (p q : List ℕ) (s r : ℕ) (table : List ℕ) : Type 0 where
-  pub answer : fewest_steps (chart_of chart).arrows (by_steps (quest_for target (flag p) (flag q))) s ≡ at_most256 r
+-- r are the fewest steps from s, at most 256, if any are enough, and the rows up to them are in the table
+pub record Found
+    (target : Target)
+    (chart : List ℕ)
+    (n : ℕ)
+    (p q : List ℕ)
+    (s : ℕ)
+    (r : Option ℕ)
+    (table : List ℕ) : Type 0 where
+  pub answer :
+      let few = fewest_steps (chart_of chart).arrows (by_steps (quest_for target (flag p) (flag q))) s in
+      MatchOption r (few ≡ none) (λ k. few ≡ some k)
+  pub most : IfSome r (λ k. k ≤ 256)
   pub slots : Slots chart
-  pub rows : r ≤ 256 → Tabled (chart_of chart) target.measure (quest_for target (flag p) (flag q)) n r table
+  pub rows :
+      IfSome r (λ k. Tabled (chart_of chart) target.measure (quest_for target (flag p) (flag q)) n k table)

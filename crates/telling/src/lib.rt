@@ -1,15 +1,13 @@
-// What a desk program says and reads: a refusal told on standard error, under what is printed of it; bytes printed, and bytes
-// read as far as there is room.
+// What a desk program says: a refusal told on standard error, under what is printed of it; bytes printed.
 #![tactic(auto)]
 
 ghost use Rattle.std.specs.Prelude.{◌≡◌, ◌≤◌, length};
-ghost use Rattle.io.specs.Counts.{IsPrefixLen};
 ghost use Rattle.append.specs.Piece.{Room, Appended, AtFront};
 ghost use Rattle.refusal_words.specs.Sentences.{counts_of};
 ghost use Rattle.telling.specs.Told.{counted_text, told_text, told};
 
 use outcome::Outcome;
-use std::io::{Print, Read};
+use std::io::Print;
 
 // The bytes of the longest line.
 const LINE: usize = 192;
@@ -73,19 +71,4 @@ pub fn tell<P: Print>(to: &P, program: &[u8], outcome: Outcome)
     let mut line = [0; LINE];
     let size = tell_into(program, outcome, &mut line);
     print(to, &line[..size]);
-}
-
-// Reads until there is no room, the input ends or a read fails, and answers how many bytes came.
-pub fn read_full<R: Read>(from: &mut R, space: &mut [u8]) -> usize
-    ensures { IsPrefixLen result space.new }
-{
-    let mut done = 0;
-    while done < space.len() {
-        match from.read(&mut space[done..]) {
-            Ok(0) => break,
-            Ok(n) => done += n,
-            Err(_) => break,
-        }
-    }
-    done
 }

@@ -23,8 +23,7 @@ fn report_text(rule: &[u8], out: &mut [u8]) -> Reported
         let printed = listing::refuse(outcome, out);
         return Reported { outcome, printed };
     }
-    let written = answer.written;
-    let end = append::put_word(&text[..written], 0, out);
+    let end = append::put_word(&text[..answer.written], 0, out);
     let printed = append::put(b'\n', end, out);
     Reported { outcome, printed }
 }
@@ -47,8 +46,6 @@ pub fn run(rt: &HostRuntime) {
     let size = desk_call::read(rt, b"desk.rul", &mut rule);
     let mut line = [0; LINE];
     let reported = report_text(&rule[..size], &mut line);
-    let printed = reported.printed;
-    telling::print(&rt.stdout(), &line[..printed]);
-    let outcome = reported.outcome;
-    telling::tell(&rt.stderr(), b"desk_text", outcome);
+    telling::print(&rt.stdout(), &line[..reported.printed]);
+    telling::tell(&rt.stderr(), b"desk_text", reported.outcome);
 }

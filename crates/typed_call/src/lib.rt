@@ -6,9 +6,10 @@ ghost use Rattle.io.specs.Counts.{IsPrefixLen};
 ghost use Rattle.typed_call.specs.Answer.{input_read, rule_room, typed, Typing};
 
 use outcome::Outcome;
+use std::fs;
 use std::fs::File;
 use std::io::Write;
-use std::{fs, io};
+use std::os::fd::AsRawFd;
 
 // How many bytes of standard input are read: one more than the longest text and its newline have.
 const INPUT: usize = 4098;
@@ -71,12 +72,11 @@ fn read_input(rt: &HostRuntime, space: &mut [u8]) -> usize
     requires { length space.old ≡ input_read }
     ensures { IsPrefixLen result space.new }
 {
-    let mut input = rt.stdin();
-    telling::read_full(&mut input, space)
+    io::read_full(rt.stdin().as_raw_fd(), space)
 }
 
 // All of the rule goes into a new file.
-fn write_new(rt: &HostRuntime, rule: &[u8]) -> io::Result<()> {
+fn write_new(rt: &HostRuntime, rule: &[u8]) -> std::io::Result<()> {
     fs::remove_file(rt, "desk.rul.new").ok();
     let mut file = File::create_new(rt, "desk.rul.new")?;
     file.write_all(rule)?;
@@ -111,12 +111,9 @@ pub fn run(rt: &HostRuntime) {
     let mut text = [0; TEXT];
     let size = read_input(rt, &mut input);
     let typed = answer(&input[..size], &mut rule, &mut text);
-    let written = typed.written;
-    let printed = typed.printed;
-    telling::print(&rt.stdout(), &text[..printed]);
-    let outcome = typed.outcome;
-    telling::tell(&rt.stderr(), b"desk_rule", outcome);
-    if written != 0 {
-        save(rt, &rule[..written]);
+    telling::print(&rt.stdout(), &text[..typed.printed]);
+    telling::tell(&rt.stderr(), b"desk_rule", typed.outcome);
+    if typed.written != 0 {
+        save(rt, &rule[..typed.written]);
     }
 }

@@ -21,10 +21,8 @@ fn put_shown(text: &[u8], at: usize, out: &mut [u8]) -> usize
     ensures { Appended at (shown_text text.now) result out.old out.new }
 {
     let mut end = at;
-    let mut i = 0;
-    while i < text.len() {
-        end = append::put(shown_byte(text[i]), end, out);
-        i += 1;
+    for byte in text {
+        end = append::put(shown_byte(*byte), end, out);
     }
     end
 }
@@ -34,10 +32,8 @@ fn put_spaces(count: usize, at: usize, out: &mut [u8]) -> usize
     ensures { Appended at (spaces count) result out.old out.new }
 {
     let mut end = at;
-    let mut i = 0;
-    while i < count {
+    for _ in 0..count {
         end = append::put(b' ', end, out);
-        i += 1;
     }
     end
 }

@@ -8,52 +8,39 @@ ghost use Rattle.operands.specs.FromOperands.{OperandsBelow};
 ghost use Rattle.until_start.specs.Meets.{some_meets};
 ghost use Rattle.operands.specs.FromOperands.{FromOperands};
 
+use arrows::Chart;
 use initial::Initial;
 use rule::NodeWords;
 use ways::{Climb, Way};
 
+// The two are not one function with parameters: it would take all that their two calls take.
+
 // E(a until b, at most c): the fewest minutes to b, through a.
-pub fn some_at_most(
-    chart: &[u8],
-    n: usize,
-    m: usize,
-    t: usize,
-    node: NodeWords,
-    marks: &mut [u8],
-    numbers: &mut [u32],
-)
-    requires { Lent chart.now n m t marks.old numbers.old × OperandsBelow t node × (node.c < 65536) }
-    ensures { FromOperands (some_meets (at_most node.c)) chart.now n t node
-        marks.old marks.new }
+pub fn some_at_most(chart: Chart, t: usize, node: NodeWords, marks: &mut [u8], numbers: &mut [u32])
+    requires { Lent chart.bytes.now chart.states chart.arrows t marks.old numbers.old
+        × OperandsBelow t node × (node.c < 65536) }
+    ensures { FromOperands (some_meets (at_most node.c)) chart.entry.bytes.now chart.entry.states t
+        node marks.old marks.new }
 {
     let far = node.c + 1;
     until_start::run_from(
         Initial::Reach(far),
         Way::Lower,
         chart,
-        n,
-        m,
         t,
         node,
         marks,
         numbers,
     );
-    fill::fill_limit(true, ways::TOP - far, n, t, numbers, marks);
+    fill::fill_limit(true, ways::TOP - far, chart.states, t, numbers, marks);
 }
 
 // E(a until b, at least c): the most minutes to b, through a.
-pub fn some_at_least(
-    chart: &[u8],
-    n: usize,
-    m: usize,
-    t: usize,
-    node: NodeWords,
-    marks: &mut [u8],
-    numbers: &mut [u32],
-)
-    requires { Lent chart.now n m t marks.old numbers.old × OperandsBelow t node × (node.c < 65536) }
-    ensures { FromOperands (some_meets (at_least node.c)) chart.now n t node
-        marks.old marks.new }
+pub fn some_at_least(chart: Chart, t: usize, node: NodeWords, marks: &mut [u8], numbers: &mut [u32])
+    requires { Lent chart.bytes.now chart.states chart.arrows t marks.old numbers.old
+        × OperandsBelow t node × (node.c < 65536) }
+    ensures { FromOperands (some_meets (at_least node.c)) chart.entry.bytes.now chart.entry.states
+        t node marks.old marks.new }
 {
     let cap = node.c + 1;
     let way = Way::Raise(Climb {
@@ -61,16 +48,6 @@ pub fn some_at_least(
         leap: false,
         cap,
     });
-    until_start::run_from(
-        Initial::Goal(cap),
-        way,
-        chart,
-        n,
-        m,
-        t,
-        node,
-        marks,
-        numbers,
-    );
-    fill::fill_limit(true, node.c, n, t, numbers, marks);
+    until_start::run_from(Initial::Goal(cap), way, chart, t, node, marks, numbers);
+    fill::fill_limit(true, node.c, chart.states, t, numbers, marks);
 }

@@ -43,7 +43,7 @@ pub lent_prepared :
     Able way numbers → Prepared way chart n m numbers
 lent_prepared l able =
     record {
-      given = record { passed = l.passed; size = l.size; fits = able.fits };
+      given = record { size = l.size; fits = able.fits };
       go = able.go;
       ready = able.ready;
     }

@@ -10,9 +10,6 @@ use Rattle.base.proofs.Truth.{or_false}
 use Rattle.tctl.specs.Chart.{Arrow}
 use Rattle.model.specs.Engine.{num}
 use Rattle.model.proofs.Numbers.{set_elim, Below}
-use Rattle.chart.specs.Bytes.{arrow_count}
-use Rattle.chart.specs.Shape.{Passed}
-use Rattle.chart.proofs.Reading.{counted}
 use Rattle.hints.specs.Values.{value_of, tested_of, values}
 use Rattle.hints.proofs.Values.{values_set, values_length}
 use Rattle.ways.specs.declared.Way.{Way}
@@ -85,18 +82,7 @@ module _ {way : Way} {chart : List ℕ} {m : ℕ} {go : ℕ → Bool} where
       Held way go a (values new) (values new)
   went_held {a} {new = new} w h = subst (λ vs. Held way go a vs (values new)) (sym (w.still refl)) h
 
-  -- the chart says how many arrows it has
-  pub went_counted :
-      {n : ℕ} {any : Bool} {old new : List ℕ} → Passed chart n m → Went way chart (arrow_count chart) go any old new →
-      Went way chart m go any old new
-  went_counted {any = any} {old} {new} p w = subst (λ m. Went way chart m go any old new) (sym p.arrows) w
-
 -- the same for as many numbers
 pub given_still :
     {way : Way} {chart : List ℕ} {n m : ℕ} {us vs : List ℕ} → Given way chart n m us → length vs ≡ n → Given way chart n m vs
-given_still g e = record { passed = g.passed; size = e; fits = g.fits }
-
--- the same with as many arrows as the chart says
-pub given_counted :
-    {way : Way} {chart : List ℕ} {n m : ℕ} {ns : List ℕ} → Given way chart n m ns → Given way chart n (arrow_count chart) ns
-given_counted g = record { passed = counted g.passed; size = g.size; fits = g.fits }
+given_still g e = record { size = e; fits = g.fits }

@@ -4,16 +4,14 @@ use Rattle.base.specs.Sum.{total}
 use Rattle.tctl.specs.Chart.{Arrow}
 use Rattle.model.specs.Engine.{num}
 use Rattle.chart.specs.Bytes.{arrow_words, arrow_of, chart_of}
-use Rattle.chart.specs.Shape.{Passed}
 use Rattle.hints.specs.Circle.{Circled}
 use Rattle.hints.specs.Values.{value_of, tested_of, values}
 use Rattle.ways.specs.declared.Way.{Way}
 use Rattle.ways.specs.declared.Way.TheVariants.{Lower, Raise}
 use Rattle.ways.specs.Way.{top, Fits, ceiling_of, offer_of, reached_of, side_of, beside}
 
--- a chart that passes checks 1 to 9, a number for each of its states, and a cap in range
+-- a number for each state, and a cap in range
 pub record Given (way : Way) (chart : List ℕ) (n m : ℕ) (ns : List ℕ) : Type 0 where
-  pub passed : Passed chart n m
   pub size : length ns ≡ n
   pub fits : Fits way
 

@@ -3,31 +3,33 @@
 #![tactic(auto)]
 
 ghost use Rattle.std.specs.Prelude.{◌≡◌, Bool, false, ℕ, ◌<◌};
-ghost use Rattle.chart.specs.Bytes.{arrow_count};
 ghost use Rattle.hints.specs.Values.{values};
 ghost use Rattle.visits.specs.Moves.{Given, Ready, arrow_at, Held, Goes, Visits};
 
+use arrows::Chart;
 use ways::{Climb, Way};
 
 // Arrow i would raise the number of its start.
-pub fn raises(way: Way, chart: &[u8], n: usize, i: usize, numbers: &[u32]) -> bool
-    requires { Given way chart.now n (arrow_count chart.now) numbers.now × (i < arrow_count chart.now) }
+pub fn raises(way: Way, chart: Chart, i: usize, numbers: &[u32]) -> bool
+    requires { Given way chart.bytes.now chart.states chart.arrows numbers.now
+        × (i < chart.arrows) }
     ensures { result ≡ false → (go : ℕ → Bool) → Ready way go numbers.now →
-        Held way go (arrow_at chart.now i) (values numbers.now) (values numbers.now) }
+        Held way go (arrow_at chart.entry.bytes.now i) (values numbers.now) (values numbers.now) }
 {
-    let a = arrows::arrow(chart, n, i);
+    let a = chart.arrow(i);
     let s = a.start;
     let e = a.end;
     ways::beats(way, a, hints::value(numbers[e]), hints::tested(numbers[s]))
 }
 
 // Arrow i raises the number of its start, and is then its hint.
-fn raise(way: Way, chart: &[u8], n: usize, i: usize, numbers: &mut [u32]) -> bool
-    requires { Given way chart.now n (arrow_count chart.now) numbers.old × (i < arrow_count chart.now) }
-    ensures { Visits way chart.now (arrow_count chart.now) i result
+fn raise(way: Way, chart: Chart, i: usize, numbers: &mut [u32]) -> bool
+    requires { Given way chart.bytes.now chart.states chart.arrows numbers.old
+        × (i < chart.arrows) }
+    ensures { Visits way chart.entry.bytes.now chart.entry.arrows i result
         numbers.old numbers.new }
 {
-    let a = arrows::arrow(chart, n, i);
+    let a = chart.arrow(i);
     let s = a.start;
     let e = a.end;
     let v = ways::offered(way, a, hints::value(numbers[e]));
@@ -40,48 +42,44 @@ fn raise(way: Way, chart: &[u8], n: usize, i: usize, numbers: &mut [u32]) -> boo
 }
 
 // The hint of state s is tried.
-pub fn follow(way: Way, chart: &[u8], n: usize, m: usize, s: usize, numbers: &mut [u32]) -> bool
-    requires { Given way chart.now n m numbers.old × (s < n) }
-    ensures { Goes way chart.now m result numbers.old numbers.new }
+pub fn follow(way: Way, chart: Chart, s: usize, numbers: &mut [u32]) -> bool
+    requires { Given way chart.bytes.now chart.states chart.arrows numbers.old
+        × (s < chart.states) }
+    ensures { Goes way chart.entry.bytes.now chart.entry.arrows result numbers.old numbers.new }
 {
     let i = hints::hint(numbers[s]);
-    if m <= i {
+    if chart.arrows <= i {
         return false;
     }
-    raise(way, chart, n, i, numbers)
+    raise(way, chart, i, numbers)
 }
 
 // Arrow i is tried, after the own hint of its start, which stays unless the arrow offered more before. A state whose arrow
 // leads back to it would get that as its hint again and again otherwise.
-pub fn renew(way: Way, chart: &[u8], n: usize, m: usize, i: usize, numbers: &mut [u32]) -> bool
-    requires { Given way chart.now n m numbers.old × (i < m) }
-    ensures { Visits way chart.now m i result numbers.old numbers.new }
+pub fn renew(way: Way, chart: Chart, i: usize, numbers: &mut [u32]) -> bool
+    requires { Given way chart.bytes.now chart.states chart.arrows numbers.old
+        × (i < chart.arrows) }
+    ensures { Visits way chart.entry.bytes.now chart.entry.arrows i result numbers.old numbers.new }
 {
-    let a = arrows::arrow(chart, n, i);
+    let a = chart.arrow(i);
     let s = a.start;
     let e = a.end;
     let v = ways::offered(way, a, hints::value(numbers[e]));
-    let own = follow(way, chart, n, m, s, numbers);
+    let own = follow(way, chart, s, numbers);
     if v <= hints::tested(numbers[s]) {
         return own;
     }
-    let new = raise(way, chart, n, i, numbers);
+    let new = raise(way, chart, i, numbers);
     own | new
 }
 
 // The number of state r goes to the cap, if the hints lead round from there, by so many arrows at most, and time passes.
 #[tactic(auto, using(crate::proofs::Went::went_none))]
-fn leap_up(
-    climb: Climb,
-    chart: &[u8],
-    n: usize,
-    m: usize,
-    most: usize,
-    r: usize,
-    numbers: &mut [u32],
-) -> bool
-    requires { Given (Way.Raise climb) chart.now n m numbers.old × (r < n) }
-    ensures { Goes (Way.Raise climb) chart.now m result numbers.old numbers.new }
+fn leap_up(climb: Climb, chart: Chart, most: usize, r: usize, numbers: &mut [u32]) -> bool
+    requires { Given (Way.Raise climb) chart.bytes.now chart.states chart.arrows numbers.old
+        × (r < chart.states) }
+    ensures { Goes (Way.Raise climb) chart.entry.bytes.now chart.entry.arrows result
+        numbers.old numbers.new }
 {
     let x = numbers[r];
     let t = hints::tested(x);
@@ -91,7 +89,7 @@ fn leap_up(
     if hints::RADIX <= t {
         return false;
     }
-    if !hints::circles(chart, n, m, most, numbers, r) {
+    if !hints::circles(chart, most, numbers, r) {
         return false;
     }
     numbers[r] = hints::retested(x, climb.cap + hints::RADIX);
@@ -99,20 +97,13 @@ fn leap_up(
 }
 
 // The same on either way: minutes that fall do not fall for ever.
-pub fn leap(
-    way: Way,
-    chart: &[u8],
-    n: usize,
-    m: usize,
-    most: usize,
-    r: usize,
-    numbers: &mut [u32],
-) -> bool
-    requires { Given way chart.now n m numbers.old × (r < n) }
-    ensures { Goes way chart.now m result numbers.old numbers.new }
+pub fn leap(way: Way, chart: Chart, most: usize, r: usize, numbers: &mut [u32]) -> bool
+    requires { Given way chart.bytes.now chart.states chart.arrows numbers.old
+        × (r < chart.states) }
+    ensures { Goes way chart.entry.bytes.now chart.entry.arrows result numbers.old numbers.new }
 {
     match way {
         Way::Lower => false,
-        Way::Raise(climb) => leap_up(climb, chart, n, m, most, r, numbers),
+        Way::Raise(climb) => leap_up(climb, chart, most, r, numbers),
     }
 }

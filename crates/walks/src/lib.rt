@@ -3,34 +3,21 @@
 #![tactic(auto)]
 
 ghost use Rattle.std.specs.Prelude.{◌≡◌, true, ◌≤◌, ◌<◌, length};
-ghost use Rattle.chart.specs.Shape.{Passed};
 ghost use Rattle.visits.specs.Moves.{Given, Goes};
 ghost use Rattle.walks.specs.Walk.{Walks, Remarked};
 
+use arrows::Chart;
 use ways::Way;
 
-// The k-th of n from the first on, or from the last back.
-fn in_order(back: bool, n: usize, k: usize) -> usize
-    requires { k < n }
-    ensures { result < n }
-{
-    if back {
-        return n - 1 - k;
-    }
-    k
-}
-
 // The hint of every state is tried, from the first state to the last or back.
-fn pass(way: Way, back: bool, chart: &[u8], n: usize, m: usize, numbers: &mut [u32]) -> bool
-    requires { Given way chart.now n m numbers.old }
-    ensures { Goes way chart.now m result numbers.old numbers.new }
+fn pass(way: Way, back: bool, chart: Chart, numbers: &mut [u32]) -> bool
+    requires { Given way chart.bytes.now chart.states chart.arrows numbers.old }
+    ensures { Goes way chart.entry.bytes.now chart.entry.arrows result numbers.old numbers.new }
 {
     let mut any = false;
-    let mut k = 0;
-    while k < n {
-        let x = visits::follow(way, chart, n, m, in_order(back, n, k), numbers);
-        any = any | x;
-        k += 1;
+    for k in 0..chart.states {
+        let s = if back { chart.states - 1 - k } else { k };
+        any |= visits::follow(way, chart, s, numbers);
     }
     any
 }
@@ -52,91 +39,73 @@ fn ends(seen: bool, x: u32) -> bool {
 
 // A walk along the hints, of as many states at most as the row has room for. The row has its states, and their marks are
 // turned.
-fn trail(
-    seen: bool,
-    chart: &[u8],
-    n: usize,
-    m: usize,
-    from: usize,
-    row: &mut [u8],
-    numbers: &mut [u32],
-) -> Steps
-    requires { Passed chart.now n m × (length numbers.old ≡ n) × (from < n) }
-    ensures { Remarked numbers.old numbers.new × (result.at < n)
+fn trail(seen: bool, chart: Chart, from: usize, row: &mut [u8], numbers: &mut [u32]) -> Steps
+    requires { (length numbers.old ≡ chart.states) × (from < chart.states) }
+    ensures { Remarked numbers.old numbers.new × (result.at < chart.entry.states)
         × (result.count ≤ length row.old) }
 {
     let mut at = from;
-    let mut k = 0;
-    while k < row.len() {
+    for (k, place) in row.iter_mut().enumerate() {
         let x = numbers[at];
         let i = hints::hint(x);
-        if ends(seen, x) | (m <= i) {
+        if ends(seen, x) | (chart.arrows <= i) {
             return Steps { at, count: k };
         }
         numbers[at] = hints::turned(x);
-        row[k] = at as u8;
-        let a = arrows::arrow(chart, n, i);
-        at = a.end;
-        k += 1;
+        *place = at as u8;
+        at = chart.arrow(i).end;
     }
-    Steps { at, count: k }
+    Steps {
+        at,
+        count: row.len(),
+    }
 }
 
 // The walk back: the hints of the states that the row has are tried, from the last of them to the first. The row is not
 // taken on trust.
-fn back(way: Way, chart: &[u8], n: usize, m: usize, count: usize, row: &[u8], numbers: &mut [u32])
-    requires { Given way chart.now n m numbers.old × (count ≤ length row.now) }
-    ensures { Walks way chart.now m true numbers.old numbers.new }
+fn back(way: Way, chart: Chart, count: usize, row: &[u8], numbers: &mut [u32])
+    requires { Given way chart.bytes.now chart.states chart.arrows numbers.old
+        × (count ≤ length row.now) }
+    ensures { Walks way chart.entry.bytes.now chart.entry.arrows true numbers.old numbers.new }
 {
-    let mut k = count;
-    while 0 < k {
-        k -= 1;
-        let s = words::wide(row[k]) as usize;
-        if n <= s {
+    for &x in row[..count].iter().rev() {
+        let s = x as usize;
+        if chart.states <= s {
             return;
         }
-        visits::follow(way, chart, n, m, s, numbers);
+        visits::follow(way, chart, s, numbers);
     }
 }
 
 // A walk from state s and back. Where it comes to a state of its own, numbers may rise round a loop.
-fn walk_from(
-    way: Way,
-    seen: bool,
-    chart: &[u8],
-    n: usize,
-    m: usize,
-    s: usize,
-    row: &mut [u8],
-    numbers: &mut [u32],
-)
-    requires { Given way chart.now n m numbers.old × (s < n) }
-    ensures { Walks way chart.now m true numbers.old numbers.new }
+fn walk_from(way: Way, seen: bool, chart: Chart, s: usize, row: &mut [u8], numbers: &mut [u32])
+    requires { Given way chart.bytes.now chart.states chart.arrows numbers.old
+        × (s < chart.states) }
+    ensures { Walks way chart.entry.bytes.now chart.entry.arrows true numbers.old numbers.new }
 {
-    let t = trail(seen, chart, n, m, s, row, numbers);
-    visits::leap(way, chart, n, m, t.count, t.at, numbers);
-    back(way, chart, n, m, t.count, row, numbers);
+    let t = trail(seen, chart, s, row, numbers);
+    visits::leap(way, chart, t.count, t.at, numbers);
+    back(way, chart, t.count, row, numbers);
 }
 
 // A walk from each state that was not met on one of them.
-fn walk(way: Way, seen: bool, chart: &[u8], n: usize, m: usize, row: &mut [u8], numbers: &mut [u32])
-    requires { Given way chart.now n m numbers.old }
-    ensures { Walks way chart.now m true numbers.old numbers.new }
+fn walk(way: Way, seen: bool, chart: Chart, row: &mut [u8], numbers: &mut [u32])
+    requires { Given way chart.bytes.now chart.states chart.arrows numbers.old }
+    ensures { Walks way chart.entry.bytes.now chart.entry.arrows true numbers.old numbers.new }
 {
-    let mut s = 0;
-    while s < n {
-        walk_from(way, seen, chart, n, m, s, row, numbers);
-        s += 1;
+    for s in 0..chart.states {
+        walk_from(way, seen, chart, s, row, numbers);
     }
 }
 
 // The hints are tried once more where minutes fall, in the other order. Answers whether walks are called for.
-fn again(way: Way, chart: &[u8], n: usize, m: usize, numbers: &mut [u32]) -> bool
-    requires { Given way chart.now n m numbers.old }
-    ensures { Walks way chart.now m true numbers.old numbers.new }
+#[tactic(auto, using(crate::proofs::Walks::runs_none))]
+fn again(way: Way, chart: Chart, numbers: &mut [u32]) -> bool
+    requires { Given way chart.bytes.now chart.states chart.arrows numbers.old }
+    ensures { Walks way chart.entry.bytes.now chart.entry.arrows true numbers.old numbers.new }
 {
     match way {
-        Way::Lower => pass(way, false, chart, n, m, numbers),
+        Way::Lower => pass(way, false, chart, numbers),
         Way::Raise(_) => true,
     }
 }
@@ -149,25 +118,18 @@ pub struct Track {
 }
 
 // Numbers rise along the hints: by passes in the order of states, and if that is not enough by walks.
-pub fn along(
-    way: Way,
-    seen: bool,
-    chart: &[u8],
-    n: usize,
-    m: usize,
-    row: &mut [u8],
-    numbers: &mut [u32],
-) -> Track
-    requires { Given way chart.now n m numbers.old }
-    ensures { Walks way chart.now m result.moved numbers.old numbers.new }
+pub fn along(way: Way, seen: bool, chart: Chart, row: &mut [u8], numbers: &mut [u32]) -> Track
+    requires { Given way chart.bytes.now chart.states chart.arrows numbers.old }
+    ensures { Walks way chart.entry.bytes.now chart.entry.arrows result.moved
+        numbers.old numbers.new }
 {
-    if !pass(way, true, chart, n, m, numbers) {
+    if !pass(way, true, chart, numbers) {
         return Track { seen, moved: false };
     }
-    if !again(way, chart, n, m, numbers) {
+    if !again(way, chart, numbers) {
         return Track { seen, moved: true };
     }
-    walk(way, seen, chart, n, m, row, numbers);
+    walk(way, seen, chart, row, numbers);
     Track {
         seen: !seen,
         moved: true,

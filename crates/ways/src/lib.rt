@@ -2,7 +2,7 @@
 // what they leave to the top, so that numbers rise on either way.
 #![tactic(auto)]
 
-ghost use Rattle.std.specs.Prelude.{◌≡◌, false, ◌-◌, ◌<◌, min};
+ghost use Rattle.std.specs.Prelude.{◌≡◌, ◌<◌};
 ghost use Rattle.chart.specs.Shape.{InRange, Slot};
 ghost use Rattle.hints.specs.Values.{radix, sided};
 ghost use Rattle.ways.specs.Way.{ceiling_of, leaps_of, Fits, Weighs, Increased, Offers, Beats, Reached};
@@ -28,6 +28,7 @@ pub enum Way {
 }
 
 // No number rises above it.
+#[tactic(auto, unfolding(crate::specs::Way::ceiling_of))]
 fn ceiling(way: Way) -> u32
     ensures { result ≡ ceiling_of way }
 {
@@ -38,6 +39,7 @@ fn ceiling(way: Way) -> u32
 }
 
 // Whether a number that rises goes to the cap at once.
+#[tactic(auto, unfolding(crate::specs::Way::leaps_of))]
 fn leaps(way: Way) -> bool
     ensures { result ≡ leaps_of way }
 {
@@ -45,16 +47,6 @@ fn leaps(way: Way) -> bool
         Way::Lower => false,
         Way::Raise(climb) => climb.leap,
     }
-}
-
-// The lesser of two numbers.
-fn lesser(a: u64, b: u64) -> u64
-    ensures { result ≡ min a b }
-{
-    if a < b {
-        return a;
-    }
-    b
 }
 
 // What an arrow with the word most weighs, no end as more than is asked for. A sum instead of a test, since whether an
@@ -69,16 +61,6 @@ fn weight_of(ticks: bool, most: u32) -> u64
     most as u64 + chart::no_end(most) as u64
 }
 
-// What is left to the top after the fewest minutes more.
-fn lessened(fewest: u32, there: u32) -> u32
-    ensures { result ≡ there - fewest }
-{
-    if there < fewest {
-        return 0;
-    }
-    there - fewest
-}
-
 // What a number comes to by the word most. From 0 there is no offer: a product instead of a test, for the same reason. Its
 // factor is above every weight.
 fn increased(ticks: bool, most: u32, there: u32) -> u32
@@ -87,22 +69,24 @@ fn increased(ticks: bool, most: u32, there: u32) -> u32
 {
     let w = weight_of(ticks, most);
     let v = there as u64;
-    lesser(v + w, v * 131072) as u32
+    (v + w).min(v * 131072) as u32
 }
 
 // What an arrow offers its start, from its end's number.
+#[tactic(auto, using(crate::proofs::Offer::lower_offers, crate::proofs::Offer::raise_offers))]
 pub fn offered(way: Way, a: ArrowWords, there: u32) -> u32
     requires { Slot a × (there < radix) }
     ensures { Offers way a there result }
 {
     match way {
-        Way::Lower => lessened(a.fewest, there),
+        Way::Lower => there.saturating_sub(a.fewest),
         Way::Raise(climb) => increased(climb.ticks, a.most, there),
     }
 }
 
 // What an arrow offers its start, from its end's number, is above t. Where minutes fall a sum is compared instead of what
 // is left, which takes no test.
+#[tactic(auto, using(crate::proofs::Offer::lower_beats, crate::proofs::Offer::raise_offers))]
 pub fn beats(way: Way, a: ArrowWords, there: u32, t: u32) -> bool
     requires { Slot a × (there < radix) × (t < sided) }
     ensures { Beats way a there t result }

@@ -4,7 +4,6 @@
 ghost use Rattle.std.specs.Prelude.{◌*◌, ◌≤◌, length};
 ghost use Rattle.why_call.specs.Why.{Reports};
 
-use arguments::Argument;
 use desk_call::Reported;
 use std::env::Env;
 
@@ -56,10 +55,8 @@ fn print_why(rt: &HostRuntime, node: usize, state: usize) {
         state,
         &mut text,
     );
-    let printed = reported.printed;
-    telling::print(&rt.stdout(), &text[..printed]);
-    let outcome = reported.outcome;
-    telling::tell(&rt.stderr(), b"desk_why", outcome);
+    telling::print(&rt.stdout(), &text[..reported.printed]);
+    telling::tell(&rt.stderr(), b"desk_why", reported.outcome);
 }
 
 fn print_usage(rt: &HostRuntime) {
@@ -69,28 +66,23 @@ fn print_usage(rt: &HostRuntime) {
     );
 }
 
-// Argument i as a number. One that is missing counts as empty.
-fn read_argument(rt: &HostRuntime, i: usize) -> Argument {
+// Argument i as a number.
+fn read_argument(rt: &HostRuntime, i: usize) -> Option<usize> {
     let mut text = [0; ARGUMENT];
-    match rt.arg(i, &mut text) {
-        Ok(size) => arguments::decimal_value(&text[..size]),
-        Err(_) => arguments::decimal_value(b""),
-    }
+    let Ok(size) = rt.arg(i, &mut text) else {
+        return None;
+    };
+    arguments::decimal_value(&text[..size])
 }
 
 // Two arguments, the program's own name before them.
 pub fn run(rt: &HostRuntime) {
-    if !arguments::has_arguments(rt, 3) {
+    if arguments::has_arguments(rt, 3)
+        && let Some(node) = read_argument(rt, 1)
+        && let Some(state) = read_argument(rt, 2)
+    {
+        print_why(rt, node, state);
+    } else {
         print_usage(rt);
-        return;
     }
-    let node = read_argument(rt, 1);
-    let state = read_argument(rt, 2);
-    if let Argument::Number(t) = node {
-        if let Argument::Number(s) = state {
-            print_why(rt, t, s);
-            return;
-        }
-    }
-    print_usage(rt);
 }

@@ -1,23 +1,22 @@
--- Invariant: the first i bytes of the word are there.
-use mathlib.Core.Path.{◌≡◌, sym, ap, ◌∙◌}
-use mathlib.Core.List.{List, [], ◌∷◌, ◌++◌}
-use Prim.Native.Nat.{ℕ, suc, ◌+◌, ◌<◌}
+-- What is copied over a part of a list is a run of stores there.
+use mathlib.Core.Path.{refl, sym, ◌∙◌}
+use mathlib.Core.List.{append_assoc}
 use native.Mathlib.Omega.{arith}
-use lib.ListN.{length, get_or, take}
-use lib.Seq.{take-suc}
-use Rattle.append.proofs.Append.{appended_both, appended_text}
+use lib.ListN.{length}
+use lib.Seq.{sets-eq}
+use Rattle.std.proofs.lemmas.Slice.{put_mid-paste}
+use Rattle.std.proofs.lemmas.List.Edits.{paste_all}
 use Rattle.append.proofs.put_word.Goals as goal
 
--- one byte more
-one_more : (word : List ℕ) (i : ℕ) → i < length word → take i word ++ get_or word i 0 ∷ [] ≡ take (i + 1) word
-one_more word i l =
-    let e : suc i ≡ i + 1 = omega arith in
-    sym (take-suc word i 0 l) ∙ ap (λ (k : ℕ). take k word) e
-
-pub loop-i-preserved : goal.loop-i-preserved
-loop-i-preserved c =
-    let word = c.args.word.now in (
-      omega arith,
-      appended_text (one_more word c.loop-i.i c.loop-i-test.true)
-          (appended_both c.loop-i.invariant.1 c.put-end.ensures),
-    )
+pub returns : goal.returns
+returns c =
+    let word = c.args.word.now in
+    let out = c.args.out.now in
+    let n = length word in
+    record {
+      end = refl;
+      bytes =
+          put_mid-paste c.args.at _ out _ word n c.copy_from_slice.ensures.after (omega arith) refl
+          ∙ paste_all out c.args.at word n refl
+          ∙ sym (sets-eq word out c.args.at c.requires.fits ∙ append_assoc _ word _);
+    }

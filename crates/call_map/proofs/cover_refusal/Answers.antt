@@ -1,8 +1,6 @@
 -- Invariant: every detail arrow before i is covered, and near is an overview arrow or the number after the last.
-use mathlib.Core.Path.{ap, ◌∙◌}
-use mathlib.Core.Bool.{not}
+use mathlib.Core.Path.{refl, sym, ap, ◌∙◌}
 use native.Mathlib.Omega.{arith}
-use borrow.Author.Tests.{le-ltb}
 use Rattle.outcome.proofs.Search.{search_found, search_ended}
 use Rattle.chart.specs.declared.ArrowWords.{ArrowWords}
 use Rattle.chart.proofs.Arrow.{arrow_inside}
@@ -21,16 +19,16 @@ mapped_arrow-want-requires c =
     let to = ap (λ (w : ArrowWords). w.end) c.arrow_at-a.ensures.0 in
     (omega (arith, p.2.whole, below.0, from), omega (arith, p.2.whole, below.1, to), c.arrow_at-a.ensures.1)
 
-pub returns-then-upper-near : goal.returns-then-upper-near
-returns-then-upper-near c =
+pub returns-in-None : goal.returns-in-None
+returns-in-None c =
     let all = c.requires.0.arrows in
     let e =
     covered_read _ _ c.args.map.now _ c.arrow_at-a.ensures.0 c.mapped_arrow-want.ensures.0
-    c.covering_arrow-near.ensures.1 (ap not (le-ltb _ _ c.if-upper-near.true)) in
-    c.refused.ensures ∙
-    search_found 23 (record { inside = omega (arith, all); offends = e; under = c.loop-i.invariant.2 })
+    (sym c.in-None.ensures) refl in
+    c.at.ensures ∙
+    search_found 23 (record { inside = omega (arith, all); offends = e; under = c.loop-i.invariant.1 })
 
 pub returns : goal.returns
 returns c =
     let all = c.requires.0.arrows in
-    c.accepted.ensures ∙ search_ended 23 (λ v l. c.loop-i.invariant.2 v (omega (arith, all)))
+    search_ended 23 (λ v l. c.loop-i.invariant.1 v (omega (arith, all)))

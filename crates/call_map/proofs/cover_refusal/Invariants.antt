@@ -7,8 +7,5 @@ use Rattle.call_map.proofs.cover_refusal.Given as goal
 -- Invariant: every detail arrow before i is covered, and near is an overview arrow or the number after the last.
 abbrev pub invariant-loop-i : goal.invariant-loop-i
 invariant-loop-i l =
-    (l.i ≤ l.lower.arrows) × (l.near ≤ l.upper.arrows) ×
+    (l.near ≤ l.upper.arrows) ×
     ((j : ℕ) → j < l.i → not (covered_at l.detail l.overview l.map j) ≡ false)
-
-abbrev pub decreases-loop-i : goal.decreases-loop-i
-decreases-loop-i l = l.lower.arrows - l.i

@@ -25,10 +25,10 @@ returns-then-own-label_word c =
     labels_told a.detail.now a.overview.now a.map.now c.loop-d.d c.label_word-own.ensures.0 c.entry_at-e.ensures.0
     c.label_word.ensures.0 in
     let e = told.0 c.if-own-label_word.true in
-    c.refused.ensures ∙
-    search_found 22 (record { inside = omega (arith, all); offends = e; under = c.loop-d.invariant.1 })
+    c.at.ensures ∙
+    search_found 22 (record { inside = omega (arith, all); offends = e; under = c.loop-d.invariant })
 
 pub returns : goal.returns
 returns c =
     let all = c.requires.0.states in
-    c.accepted.ensures ∙ search_ended 22 (λ v l. c.loop-d.invariant.1 v (omega (arith, all)))
+    search_ended 22 (λ v l. c.loop-d.invariant v (omega (arith, all)))

@@ -7,7 +7,4 @@ use Rattle.call_map.proofs.label_refusal.Given as goal
 -- Invariant: no labels before state d differ.
 abbrev pub invariant-loop-d : goal.invariant-loop-d
 invariant-loop-d l =
-    (l.d ≤ l.n) × ((v : ℕ) → v < l.d → labels_differ l.detail l.overview l.map v ≡ false)
-
-abbrev pub decreases-loop-d : goal.decreases-loop-d
-decreases-loop-d l = l.n - l.d
+    (v : ℕ) → v < l.d → labels_differ l.detail l.overview l.map v ≡ false

@@ -1,19 +1,20 @@
 -- `call_reader::step` meets its contract: past the first test the chart passes checks 1 to 9, and the second says whether an
 -- arrow has the number.
-use mathlib.Core.Path.{◌≡◌, sym, ap, ◌∙◌}
+use mathlib.Core.Path.{◌≡◌, refl, sym, ap, ◌∙◌}
 use mathlib.Core.List.{List}
 use Prim.Native.Nat.{ℕ, ◌≤◌, ◌<◌}
 use native.Mathlib.Omega.{arith}
 use lib.ListN.{length}
+use Rattle.std.specs.Prelude.{Option, Some}
 use Rattle.outcome.specs.declared.Outcome.{Outcome}
+use Rattle.outcome.proofs.First.{fault_number}
+use Rattle.chart.specs.declared.ArrowWords.{ArrowWords}
 use Rattle.chart.specs.Bytes.{arrow_count}
 use Rattle.chart.specs.Shape.{Passed}
 use Rattle.chart.specs.Refusals.{chart_refusal}
 use Rattle.chart.proofs.WellFormed.{well_formed}
 use Rattle.chart.proofs.Arrow.{arrow_inside}
 use Rattle.chart.proofs.Reading.{shaped}
-use Rattle.call_reader.specs.declared.Handed.{Handed}
-use Rattle.call_reader.specs.declared.Handed.TheVariants.{Arrow}
 use Rattle.call_reader.specs.declared.Stepped.{Stepped}
 use Rattle.call_reader.specs.Reading.{handed, number_after, step_of}
 use Rattle.call_reader.proofs.InOrder.{hands_out, finished_past, finished_at_once}
@@ -21,7 +22,7 @@ use Rattle.call_reader.proofs.step.Goals as goal
 
 -- what is handed out says the number after it
 with_number :
-    (s : List ℕ) (i : ℕ) {h : Handed} → h ≡ handed s i →
+    (s : List ℕ) (i : ℕ) {h : Option ArrowWords} → h ≡ handed s i →
     ◌≡◌ {A = Stepped} (record { handed = h; number = number_after h i }) (step_of s i)
 with_number s i e = λ t. record { handed = e t; number = number_after (e t) i }
 
@@ -33,10 +34,10 @@ long : (s : List ℕ) {o : Outcome} → o ≡ chart_refusal s → o.number ≡ 0
 long s e z = (well_formed s (passed s e z)).head.enough
 
 pub arrow_count-requires : goal.arrow_count-requires
-arrow_count-requires c = long _ c.chart_refusal-refusal.ensures c.if-refusal-eq0.true
+arrow_count-requires c = long _ c.in-Ok.ensures refl
 
 pub state_count-requires : goal.state_count-requires
-state_count-requires c = long _ c.chart_refusal-refusal.ensures c.if-refusal-eq0.true
+state_count-requires c = long _ c.in-Ok.ensures refl
 
 pub arrow_at-arrow-requires : goal.arrow_at-arrow-requires
 arrow_at-arrow-requires c =
@@ -44,7 +45,7 @@ arrow_at-arrow-requires c =
     record {
       states = c.state_count.ensures.0;
       arrows = c.arrow_count.ensures.0;
-      unrefused = passed _ c.chart_refusal-refusal.ensures c.if-refusal-eq0.true;
+      unrefused = passed _ c.in-Ok.ensures refl;
     } in
     arrow_inside (shaped p) c.if-number-arrow_count.true
 
@@ -53,15 +54,15 @@ returns-then-number-arrow_count c =
     let s = c.args.chart.now in
     let i = c.args.number in
     let l : i < arrow_count s = omega (arith, c.if-number-arrow_count.true, c.arrow_count.ensures.0) in
-    let unrefused = passed s c.chart_refusal-refusal.ensures c.if-refusal-eq0.true in
-    with_number s i (ap Arrow c.arrow_at-arrow.ensures.0 ∙ sym (hands_out s unrefused i l))
+    let unrefused = passed s c.in-Ok.ensures refl in
+    with_number s i (ap Some c.arrow_at-arrow.ensures.0 ∙ sym (hands_out s unrefused i l))
 
 pub returns-else-number-arrow_count : goal.returns-else-number-arrow_count
 returns-else-number-arrow_count c =
     let s = c.args.chart.now in
     with_number s _ (sym (finished_past s _ (omega (arith, c.if-number-arrow_count.false, c.arrow_count.ensures.0))))
 
-pub returns-else-refusal-eq0 : goal.returns-else-refusal-eq0
-returns-else-refusal-eq0 c =
-    let same = ap (λ (o : Outcome). o.number) c.chart_refusal-refusal.ensures in
-    with_number c.args.chart.now _ (sym (finished_at_once c.args.chart.now (λ z. c.if-refusal-eq0.false (same ∙ z)) _))
+pub returns-in_default : goal.returns-in_default
+returns-in_default c =
+    let same = ap (λ (o : Outcome). o.number) c.in_default.ensures in
+    with_number c.args.chart.now _ (sym (finished_at_once c.args.chart.now (λ z. fault_number _ (same ∙ z)) _))

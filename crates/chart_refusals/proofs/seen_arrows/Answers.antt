@@ -1,21 +1,21 @@
--- The invariant: no arrow before i has the fault of row 7, row 8 is decided of them, and the sets have what they leave.
+-- The invariant: no arrow before i has the fault of row 7, the lowest empty slot of them is kept, and the sets have what they
+-- leave.
 use mathlib.Core.Path.{◌≡◌, refl, sym, ap, subst, ◌∙◌}
 use mathlib.Core.Bool.{false}
 use mathlib.Core.List.{[], ◌∷◌}
-use Prim.Native.Nat.{ℕ, ◌<◌}
+use Prim.Native.Nat.{ℕ, ◌≤◌, ◌<◌}
 use native.Mathlib.Omega.{arith}
 use native.Mathlib.Numerals.{add-one}
 use lib.Dec.{leb}
 use borrow.Author.Count.{below_none, below_more}
 use borrow.Author.Tests.{leb-false}
 use Rattle.base.proofs.Truth.{or_false}
-use Rattle.outcome.specs.declared.Outcome.{Outcome}
-use Rattle.outcome.specs.Refusal.{success, first}
-use Rattle.outcome.proofs.First.{part_refuses, part_passes}
-use Rattle.outcome.proofs.Search.{search_found, search_ended}
+use Rattle.outcome.specs.Refusal.{lowest}
+use Rattle.outcome.proofs.First.{err_part, ok_part}
+use Rattle.outcome.proofs.Search.{search_found, search_ended, kept_more, kept_some, kept_none}
 use Rattle.chart.specs.declared.ArrowWords.{ArrowWords}
 use Rattle.chart.specs.Bytes.{arrow_words}
-use Rattle.chart.specs.Refusals.{names_no_state}
+use Rattle.chart.specs.Refusals.{names_no_state, empty_slot}
 use Rattle.chart.specs.Rows.{end_row, slot_row}
 use Rattle.chart_refusals.specs.Leaves.{Leaves}
 use Rattle.chart_refusals.proofs.Left.{left_none, left_put}
@@ -26,29 +26,14 @@ starts_below : (n : ℕ) (a : ArrowWords) → names_no_state n a ≡ false → a
 starts_below n a e = leb-false n a.start (or_false (leb n a.start) (leb n a.end) e).0
 
 pub loop-i-init : goal.loop-i-init
-loop-i-init c = (omega arith, below_none _, c.accepted-slots.ensures ∙ search_ended 8 (below_none _), left_none _)
+unfolding lowest
+loop-i-init c = (below_none _, refl, left_none _)
 
 pub returns-then-names_no_state : goal.returns-then-names_no_state
-returns-then-names_no_state c =
-    let a = c.args in
-    let s = a.chart.now in
-    let refused : ¬ (c.refused.result.number ≡ 0) = λ z. omega (arith, ap (λ (o : Outcome). o.number) c.refused.ensures) in
-    let met : c.refused.result ≡ first (end_row s a.n a.m ∷ []) =
-    c.refused.ensures ∙
-    search_found 7 (
-    record {
-      inside = c.loop-i-test.true;
-      offends =
-          ap (names_no_state a.n) (sym c.arrow_at-a.ensures.0) ∙ sym c.names_no_state.ensures ∙ c.if-names_no_state.true;
-      under = c.loop-i.invariant.1;
-    }
-    ) in
-    record {
-      refusal_value = part_refuses (end_row s a.n a.m ∷ []) (slot_row s a.m ∷ []) met refused;
-      leaves = λ z. absurd (refused z);
-    }
+returns-then-names_no_state c = err_part _ _ _ (c.at.ensures ∙ search_found 7 (record { inside = c.loop-i-test.true; offends = ap (names_no_state c.args.n) (sym c.arrow_at-a.ensures.0) ∙ sym c.names_no_state.ensures ∙ c.if-names_no_state.true; under = c.loop-i.invariant.0 }))
 
 pub loop-i-preserved : goal.loop-i-preserved
+unfolding lowest
 loop-i-preserved c =
     let arrow = c.arrow_at-a in
     let s = c.args.chart.now in
@@ -57,20 +42,32 @@ loop-i-preserved c =
     let e : (arrow_words s i).start ≡ arrow.result.start = ap (λ (w : ArrowWords). w.start) (sym arrow.ensures.0) in
     let named = sym c.names_no_state.ensures ∙ c.if-names_no_state.false in
     let inside = starts_below n arrow.result named in (
-      omega arith,
-      below_more _ i c.loop-i.invariant.1 (ap (names_no_state n) (sym arrow.ensures.0) ∙ named),
-      rw (add-one i) (c.slot_refusal-slots.ensures s arrow.ensures.0 c.loop-i.invariant.2),
-      rw (add-one i) (left_put s e (omega (arith, inside, c.requires.few_states)) c.with.ensures c.loop-i.invariant.3),
+      below_more _ i c.loop-i.invariant.0 (ap (names_no_state n) (sym arrow.ensures.0) ∙ named),
+      rw (add-one i) (kept_more _ _ i c.loop-i.invariant.1 (c.empty_slot.ensures ∙ ap empty_slot arrow.ensures.0) c.then_some.ensures c.or-empty.ensures),
+      rw (add-one i) (left_put s e (omega (arith, inside, c.requires.few_states)) c.with.ensures c.loop-i.invariant.2),
     )
 
-pub returns : goal.returns
-returns c =
-    let a = c.args in
-    let s = a.chart.now in
-    let e : c.loop-i.i ≡ a.m = omega arith in
-    let ends : success ≡ first (end_row s a.n a.m ∷ []) = search_ended 7 (λ j l. c.loop-i.invariant.1 j (omega arith)) in
-    let slots = c.loop-i.invariant.2 ∙ ap (λ k. first (slot_row s k ∷ [])) e in
-    record {
-      refusal_value = part_passes (end_row s a.n a.m ∷ []) (slot_row s a.m ∷ []) tt ends refl slots;
-      leaves = λ z. subst (λ k. Leaves s k c.loop-i.left) e c.loop-i.invariant.3;
-    }
+-- the pass was over all arrows
+passed : (k m : ℕ) → m ≤ k → k ≤ m → k ≡ m
+passed k m l h = omega arith
+
+pub at-requires-in-Some : goal.at-requires-in-Some
+at-requires-in-Some c =
+    let l = (kept_some _ c.in-Some.is c.loop-i.invariant.1).inside in
+    omega (arith, c.requires.few_arrows, l)
+
+pub returns-in-Some : goal.returns-in-Some
+returns-in-Some c =
+    let e = passed _ _ c.loop-i-test.false c.loop-i.auto.i-end in
+    let ends = search_ended 7 (subst (λ k. (j : ℕ) → j < k → names_no_state c.args.n (arrow_words c.args.chart.now j) ≡ false) e c.loop-i.invariant.0) in
+    ok_part (end_row c.args.chart.now c.args.n c.args.m ∷ []) (slot_row c.args.chart.now c.args.m ∷ []) tt ends
+    (c.at-in-Some.ensures ∙ search_found 8 (kept_some _ c.in-Some.is (c.loop-i.invariant.1 ∙ ap (lowest _) e)))
+
+pub returns-in-None : goal.returns-in-None
+returns-in-None c =
+    let e = passed _ _ c.loop-i-test.false c.loop-i.auto.i-end in
+    let ends = search_ended 7 (subst (λ k. (j : ℕ) → j < k → names_no_state c.args.n (arrow_words c.args.chart.now j) ≡ false) e c.loop-i.invariant.0) in (
+      ok_part (end_row c.args.chart.now c.args.n c.args.m ∷ []) (slot_row c.args.chart.now c.args.m ∷ []) tt ends
+          (search_ended 8 (kept_none _ c.in-None.is (c.loop-i.invariant.1 ∙ ap (lowest _) e))),
+      subst (λ k. Leaves c.args.chart.now k c.loop-i.left) e c.loop-i.invariant.2,
+    )

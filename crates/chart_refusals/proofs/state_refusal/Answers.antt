@@ -20,17 +20,16 @@ says h u l = ap not (sym (h.tells u l))
 pub returns-then-not-has : goal.returns-then-not-has
 returns-then-not-has c s m h =
     let few = c.requires in
-    c.refused.ensures ∙
+    c.at.ensures ∙
     search_found 9 (
     record {
       inside = c.loop-v-test.true;
       offends = says h c.loop-v.v (omega (arith, few)) ∙ ap not (sym c.has.ensures ∙ c.if-not-has.true);
-      under = λ u l. says h u (omega (arith, few)) ∙ c.loop-v.invariant.1 u l;
+      under = λ u l. says h u (omega (arith, few)) ∙ c.loop-v.invariant u l;
     }
     )
 
 pub returns : goal.returns
 returns c s m h =
     let few = c.requires in
-    c.accepted.ensures ∙
-    search_ended 9 (λ u l. says h u (omega (arith, few)) ∙ c.loop-v.invariant.1 u (omega arith))
+    search_ended 9 (λ u l. says h u (omega (arith, few)) ∙ c.loop-v.invariant u (omega arith))

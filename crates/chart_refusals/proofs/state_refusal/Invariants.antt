@@ -8,7 +8,4 @@ use Rattle.chart_refusals.proofs.state_refusal.Given as goal
 -- The invariant: every state before v is in its set. So the state that is found is the lowest.
 abbrev pub invariant-loop-v : goal.invariant-loop-v
 invariant-loop-v l =
-    (l.v ≤ l.n) × ((u : ℕ) → u < l.v → not (member (get_or l.left (u / 64) 0) (u % 64)) ≡ false)
-
-abbrev pub decreases-loop-v : goal.decreases-loop-v
-decreases-loop-v l = l.n - l.v
+    (u : ℕ) → u < l.v → not (member (get_or l.left (u / 64) 0) (u % 64)) ≡ false

@@ -5,4 +5,4 @@ use Rattle.chart.proofs.Reading.{shaped}
 use Rattle.cover.proofs.cover_between.Goals as goal
 
 pub arrow_at-b-requires : goal.arrow_at-b-requires
-arrow_at-b-requires c = let p = c.requires in arrow_inside (shaped p.0) (omega (arith, c.loop-j-test.true))
+arrow_at-b-requires c = let p = c.requires in arrow_inside (shaped p.0) (omega arith)

@@ -2,14 +2,8 @@
 use mathlib.Core.Path.{refl, sym}
 use native.Mathlib.Omega.{arith}
 use Rattle.append.proofs.Append.{appended_text, appended_both, room_text, room_first, room_second}
-use Rattle.decimal.proofs.Decimal.{decimal_last, decimal_more}
+use Rattle.decimal.proofs.Decimal.{decimal_more}
 use Rattle.decimal.proofs.+put_number.Goals as goal
-
-pub put-requires : goal.put-requires
-put-requires t c = room_text (decimal_last c.digit.ensures c.if-x-lt10.true) c.requires
-
-pub returns-then-x-lt10 : goal.returns-then-x-lt10
-returns-then-x-lt10 t c = appended_text (sym (decimal_last c.digit.ensures c.if-x-lt10.true)) c.put.ensures
 
 pub put_number-end-requires : goal.put_number-end-requires
 put_number-end-requires t c =

@@ -11,9 +11,11 @@ use Rattle.engine.proofs.rise.Given as goal
 -- Invariant: the numbers are on their way, after so many sweeps, and the arrows before the floor raise none.
 abbrev pub invariant-loop-way : goal.invariant-loop-way
 invariant-loop-way l =
-    (l.done ≤ l.n) × (l.floor ≤ l.m) × (length l.row ≡ length l.initial.row) × (length l.numbers ≡ l.n) ×
+    (l.done ≤ l.chart.states) × (l.floor ≤ l.chart.arrows) × (length l.row ≡ length l.initial.row) ×
+    (length l.numbers ≡ l.chart.states) ×
     ((go : ℕ → Bool) → Ready l.way go l.initial.numbers →
-    OnTheWay l.way l.chart go l.done l.initial.numbers l.numbers × Still l.way l.chart go 0 l.floor (values l.numbers))
+    OnTheWay l.way l.chart.bytes.now go l.done l.initial.numbers l.numbers ×
+    Still l.way l.chart.bytes.now go 0 l.floor (values l.numbers))
 
 abbrev pub decreases-loop-way : goal.decreases-loop-way
 decreases-loop-way l = left l.way (values l.numbers)

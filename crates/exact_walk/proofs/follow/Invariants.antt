@@ -9,7 +9,6 @@ use Rattle.exact_walk.proofs.follow.Given as goal
 -- fewest for the minutes and the state.
 abbrev pub invariant-loop-left : goal.invariant-loop-left
 invariant-loop-left l =
-    (l.state < l.n) × (l.minutes ≤ l.c) × (l.left < 257) × (left_in l.n l.table l.minutes l.state ≡ l.left) × Rest (walk_in l.chart l.n l.table l.k l.c l.s) l.initial.out l.out l.end (walk_in l.chart l.n l.table l.left l.minutes l.state)
-
-abbrev pub decreases-loop-left : goal.decreases-loop-left
-decreases-loop-left l = l.left
+    (l.state < l.chart.states) × (l.minutes ≤ l.c) × (left_in l.chart.states l.table l.minutes l.state ≡ l.left) ×
+    Rest (walk_in l.chart.bytes.now l.chart.states l.table l.k l.c l.s) l.initial.out l.out l.end
+    (walk_in l.chart.bytes.now l.chart.states l.table l.left l.minutes l.state)

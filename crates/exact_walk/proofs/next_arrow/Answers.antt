@@ -4,26 +4,26 @@ use Prim.Native.Nat.{◌+◌}
 use native.Mathlib.Omega.{arith}
 use borrow.Author.Count.{below_more}
 use Rattle.model.specs.Engine.{num}
+use Rattle.chart.specs.Bytes.{arrow_of}
 use Rattle.arrow_links.specs.Linked.{Lowest}
 use Rattle.run_walk.proofs.Led.{led}
 use Rattle.exact_walk.proofs.Next.{serves_others, serves_found, serves_not, next_found, next_some}
 use Rattle.exact_walk.proofs.next_arrow.Goals as goal
 
 -- the arrow that is read leaves s
-pub returns-then-first_minutes-minutes : goal.returns-then-first_minutes-minutes
-returns-then-first_minutes-minutes c =
+pub returns-in-Some-clause-arrow : goal.returns-in-Some-clause-arrow
+returns-in-Some-clause-arrow c =
     let a = c.args in
-    let p = c.requires in
     let i = c.loop-i.i in
     let inv = c.loop-i.invariant in
     let l = c.loop-i-test.true in
-    let own : c.arrow-a.result.start ≡ a.s = ap (λ w. w.start) c.arrow-a.ensures.0 ∙ inv.leaves l in (
-      next_found a.chart.now a.n a.table.now a.left a.minutes a.s i (omega (arith, l, p.0.arrows))
-          (serves_found a.chart.now a.n a.table.now a.left a.minutes a.s p.3.few i c.arrow-a.ensures.0 own
-          c.first_minutes.ensures c.if-first_minutes-minutes.true)
-          inv.under,
-      l,
-    )
+    let read = c.arrow-a.ensures.0 in
+    let own : c.arrow-a.result.start ≡ a.s = ap (λ w. w.start) read ∙ inv.leaves l in
+    ap arrow_of read ∙
+    next_found a.chart.bytes.now a.chart.states a.table.now a.left a.minutes a.s i
+    (omega (arith, l, a.chart.passed.arrows))
+    (serves_found a.chart.bytes.now a.chart.states a.table.now a.left a.minutes a.s i read own c.in-Some.ensures)
+    inv.under
 
 -- what the arrow's link leads to
 pub loop-i-preserved : goal.loop-i-preserved
@@ -33,17 +33,18 @@ loop-i-preserved c =
     let i = c.loop-i.i in
     let inv = c.loop-i.invariant in
     let l = c.loop-i-test.true in
-    let own : c.arrow-a.result.start ≡ a.s = ap (λ w. w.start) c.arrow-a.ensures.0 ∙ inv.leaves l in
-    let next = subst (λ s. Lowest a.chart.now a.m s (i + 1) (num a.nexts.now i)) (inv.leaves l) (p.1.next i (omega arith) l) in
-    led _ (serves_others a.chart.now a.n a.table.now a.left a.minutes a.s) next
+    let read = c.arrow-a.ensures.0 in
+    let own : c.arrow-a.result.start ≡ a.s = ap (λ w. w.start) read ∙ inv.leaves l in
+    let next =
+    subst (λ s. Lowest a.chart.bytes.now a.chart.arrows s (i + 1) (num a.nexts.now i)) (inv.leaves l)
+    (p.0.next i (omega arith) l) in
+    led _ (serves_others a.chart.bytes.now a.chart.states a.table.now a.left a.minutes a.s) next
     (below_more _ i inv.under
-    (serves_not a.chart.now a.n a.table.now a.left a.minutes a.s p.3.few i c.arrow-a.ensures.0 own
-    c.first_minutes.ensures c.if-first_minutes-minutes.false))
+    (serves_not a.chart.bytes.now a.chart.states a.table.now a.left a.minutes a.s i read own c.in_default.ensures))
 
-pub returns : goal.returns
-returns c =
+pub unreachable-requires : goal.unreachable-requires
+unreachable-requires c =
     let a = c.args in
     let p = c.requires in
-    absurd
-    (next_some a.chart.now a.n a.table.now a.left a.minutes a.s p.4
-    (λ j l. c.loop-i.invariant.under j (omega (arith, c.loop-i-test.false, p.0.arrows))))
+    next_some a.chart.bytes.now a.chart.states a.table.now a.left a.minutes a.s p.3
+    (λ j l. c.loop-i.invariant.under j (omega (arith, c.loop-i-test.false, c.args.chart.passed.arrows)))

@@ -3,4 +3,4 @@ use Rattle.chart.proofs.Reading.{shaped}
 use Rattle.exact_walk.proofs.write_walk.Goals as goal
 
 pub link-requires : goal.link-requires
-link-requires c = let p = c.requires.passed in (p, (shaped p).few_states, (shaped p).few_arrows)
+link-requires c = let p = c.requires.passed in ((shaped p).few_states, (shaped p).few_arrows)

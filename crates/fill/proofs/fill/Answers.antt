@@ -9,8 +9,8 @@ use Rattle.fill.proofs.fill.Goals as goal
 
 pub loop-s-preserved : goal.loop-s-preserved
 loop-s-preserved c =
-    let w = c.loop-s.invariant.1 in
+    let w = c.loop-s.invariant in
     let p = row_next c.requires.1 c.loop-s-test.true w in
     let q = row_next c.requires.2 c.loop-s-test.true w in
     let e = c.combined.ensures ∙ ap₂ (λ x y. combine c.args.connective (eqb x 1) (eqb y 1)) p q in
-    (omega arith, entries_more w refl (omega arith) (mark_byte e))
+    entries_more w refl (omega arith) (mark_byte e)

@@ -1,4 +1,4 @@
-use Prim.Native.Nat.{◌*◌, ◌≤◌, ◌-◌}
+use Prim.Native.Nat.{◌*◌}
 use Rattle.model.specs.Marks.{bit, mark}
 use Rattle.base.specs.Entries.{Entries}
 use Rattle.fill.specs.Fill.{combine}
@@ -7,9 +7,6 @@ use Rattle.fill.proofs.fill.Given as goal
 -- Invariant: the marks before s are written.
 abbrev pub invariant-loop-s : goal.invariant-loop-s
 invariant-loop-s l =
-    (l.s ≤ l.n) × Entries (l.t * l.n) l.s
+    Entries (l.t * l.n) l.s
     (λ v. bit (combine l.connective (mark l.n l.initial.marks l.a v) (mark l.n l.initial.marks l.b v)))
     l.initial.marks l.marks
-
-abbrev pub decreases-loop-s : goal.decreases-loop-s
-decreases-loop-s l = l.n - l.s

@@ -1,6 +1,5 @@
 -- Invariant: arrows through states that are gone through lead from r to the state.
 use Rattle.std.proofs.Common.{◌≡◌, Bool, true, cond, List, ℕ, ◌<◌, length, get_or, sym, subst, arith}
-use mathlib.Core.Bool.{false≢true}
 use mathlib.Core.List.{Memᴰ}
 use lib.Dec.{eqb}
 use Rattle.chart.specs.declared.ArrowWords.{ArrowWords}
@@ -22,22 +21,21 @@ more chart numbers i {at = at} {w = w} e l leaves inside is free passed led go o
     subst (λ v. Memᴰ (arrow_of v) (chart_of chart).arrows) (sym e) (arrow_mem chart i l) in
     led_more (led go opens) w mem leaves (opens at inside (omega arith)) passed
 
-pub loop-k-init : goal.loop-k-init
-loop-k-init c = (omega arith, c.requires.2, λ go opens. led_none)
+pub loop-init : goal.loop-init
+loop-init c = (c.requires.1, λ go opens. led_none)
 
 pub returns-then-at-r : goal.returns-then-at-r
 returns-then-at-r c =
     λ go opens.
     led_round
-    (more c.args.chart.now c.args.numbers.now c.hint-i.result c.arrow-a.ensures.0
-    (omega (arith, c.requires.0.arrows)) c.if-a-at.false (omega arith) c.tested.ensures (omega arith)
-    c.time_passes-passes.ensures c.loop-k.invariant.2 go opens) c.if-at-r.true
+    (more c.args.chart.bytes.now c.args.numbers.now c.hint-i.result c.arrow-a.ensures.0
+    (omega (arith, c.args.chart.passed.arrows)) c.if-a-at.false (omega arith) c.tested.ensures (omega arith)
+    c.time_passes-passes.ensures c.loop.invariant.1 go opens) c.if-at-r.true
 
-pub loop-k-preserved : goal.loop-k-preserved
-loop-k-preserved c = (
-  omega arith,
+pub loop-preserved : goal.loop-preserved
+loop-preserved c = (
   c.arrow-a.ensures.1.end,
-  more c.args.chart.now c.args.numbers.now c.hint-i.result c.arrow-a.ensures.0
-      (omega (arith, c.requires.0.arrows)) c.if-a-at.false (omega arith) c.tested.ensures (omega arith)
-      c.time_passes-passes.ensures c.loop-k.invariant.2,
+  more c.args.chart.bytes.now c.args.numbers.now c.hint-i.result c.arrow-a.ensures.0
+      (omega (arith, c.args.chart.passed.arrows)) c.if-a-at.false (omega arith) c.tested.ensures (omega arith)
+      c.time_passes-passes.ensures c.loop.invariant.1,
 )

@@ -4,15 +4,14 @@ use Rattle.initial.proofs.Cleared.{cleared_none, cleared_more, cleared_all, clea
 use Rattle.initial.proofs.clear_each.Goals as goal
 
 pub loop-i-init : goal.loop-i-init
-loop-i-init c = (omega arith, cleared_none)
+loop-i-init c = cleared_none
 
 pub loop-i-preserved : goal.loop-i-preserved
-loop-i-preserved c = (
-  omega arith,
-  cleared_more c.either.result c.loop-i.invariant.1 c.arrow-a.ensures.0
-      (omega (arith, c.arrow-a.ensures.1.start, c.loop-i.invariant.1.size, c.requires.2))
-      (chosen c.either.ensures c.retested-full.ensures),
-)
+loop-i-preserved c =
+    cleared_more c.either.result c.loop-i.invariant c.arrow-a.ensures.0
+    (omega (arith, c.arrow-a.ensures.1.start, c.loop-i.invariant.size, c.requires.1))
+    (chosen c.either.ensures c.retested-full.ensures)
 
 pub returns : goal.returns
-returns c = let p = c.requires in cleared_sured (cleared_all (omega (arith, p.0.arrows)) c.loop-i.invariant.1) p.2
+returns c = let p = c.requires in cleared_sured (cleared_all (omega (arith, c.args.chart.passed.arrows))
+    c.loop-i.invariant) p.1

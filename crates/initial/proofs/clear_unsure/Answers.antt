@@ -5,4 +5,4 @@ use Rattle.initial.proofs.clear_unsure.Goals as goal
 pub returns-then-all_are : goal.returns-then-all_are
 returns-then-all_are c =
     let p = c.requires in
-    sured_all c.args.good.now p.0 p.1 p.2 (c.all_are.ensures c.if-all_are.true)
+    sured_all c.args.good.now c.args.chart.passed p.0 p.1 (c.all_are.ensures c.if-all_are.true)

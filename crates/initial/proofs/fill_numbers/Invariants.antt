@@ -1,5 +1,5 @@
 use mathlib.Core.Path.{◌≡◌}
-use Prim.Native.Nat.{ℕ, ◌≤◌, ◌<◌, ◌-◌}
+use Prim.Native.Nat.{ℕ, ◌<◌}
 use lib.ListN.{length}
 use Rattle.model.specs.Engine.{num}
 use Rattle.model.specs.Marks.{mark}
@@ -10,9 +10,6 @@ use Rattle.initial.proofs.fill_numbers.Given as goal
 -- Invariant: the numbers before s are written, each as the one of four for its marks.
 abbrev pub invariant-loop-s : goal.invariant-loop-s
 invariant-loop-s l =
-    (l.s ≤ l.n) × (length l.numbers ≡ l.n) ×
+    (length l.numbers ≡ l.n) ×
     ((v : ℕ) → v < l.s →
     tested_of (num l.numbers v) ≡ one_of l.four (mark l.n l.marks l.a v) (mark l.n l.marks l.b v))
-
-abbrev pub decreases-loop-s : goal.decreases-loop-s
-decreases-loop-s l = l.n - l.s

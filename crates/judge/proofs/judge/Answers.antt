@@ -1,5 +1,7 @@
 -- The rows before 19, then row 19 and the nodes on the numbers of scratch that are worked on; what is asked for is cleared.
-use mathlib.Core.Path.{◌≡◌, sym, ap, ap₂, ◌∙◌}
+use mathlib.Core.Path.{◌≡◌, refl, sym, ap, ap₂, ◌∙◌}
+use Rattle.std.proofs.lemmas.Result.{err_from_is_err_and}
+use Rattle.outcome.proofs.First.{fault_number}
 use mathlib.Core.Bool.{Bool}
 use mathlib.Core.List.{List}
 use Prim.Native.Nat.{ℕ, ◌≤◌}
@@ -43,88 +45,97 @@ module _ {counting : Bool} {chart rule marks scratch : List ℕ} (p : Admitted c
     lent : length (take used scratch) ≡ numbers_for (minutely counting rule) n
     lent = front ∙ works ∙ ap (λ b. numbers_for b n) minutes
 
-pub returns-then-input-ne0 : goal.returns-then-input-ne0
-returns-then-input-ne0 c = refused_answered _ _ _ _ _ c.input_refusal-input.ensures c.if-input-ne0.true
+pub returns-in_err-input_refusal : goal.returns-in_err-input_refusal
+returns-in_err-input_refusal c =
+    let p = err_from_is_err_and c.from_residual.result c.from_residual.ensures.1 in
+    rw (p.1, p.2) (refused_answered _ _ _ _ _ c.in_err-input_refusal.ensures (fault_number _))
 
-pub state_count-n-requires : goal.state_count-n-requires
-state_count-n-requires c =
-    let p = input_passes _ _ _ _ _ c.input_refusal-input.ensures c.if-input-ne0.false in
+pub state_count-requires : goal.state_count-requires
+state_count-requires c =
+    let p = input_passes _ _ _ _ _ c.in_ok-input_refusal.ensures refl in
     (well_formed _ p.of_chart).head.enough
 
-pub arrow_count-m-requires : goal.arrow_count-m-requires
-arrow_count-m-requires c =
-    let p = input_passes _ _ _ _ _ c.input_refusal-input.ensures c.if-input-ne0.false in
+pub arrow_count-requires : goal.arrow_count-requires
+arrow_count-requires c =
+    let p = input_passes _ _ _ _ _ c.in_ok-input_refusal.ensures refl in
     (well_formed _ p.of_chart).head.enough
+
+pub invariant_of-chart : goal.invariant_of-chart
+invariant_of-chart c =
+    let p = input_passes _ _ _ _ _ c.in_ok-input_refusal.ensures refl in
+    record {
+      passed = record { states = c.state_count.ensures.0; arrows = c.arrow_count.ensures.0; unrefused = p.of_chart };
+    }
 
 pub node_count-k-requires : goal.node_count-k-requires
 node_count-k-requires c =
-    let p = input_passes _ _ _ _ _ c.input_refusal-input.ensures c.if-input-ne0.false in
+    let p = input_passes _ _ _ _ _ c.in_ok-input_refusal.ensures refl in
     omega (arith, (accepted _ p.of_rule).shape.whole)
 
 pub minutely-minutely-requires : goal.minutely-minutely-requires
 minutely-minutely-requires c =
-    let p = input_passes _ _ _ _ _ c.input_refusal-input.ensures c.if-input-ne0.false in
+    let p = input_passes _ _ _ _ _ c.in_ok-input_refusal.ensures refl in
     p.of_rule
 
 pub numbers_for-used-requires : goal.numbers_for-used-requires
 numbers_for-used-requires c =
-    let p = input_passes _ _ _ _ _ c.input_refusal-input.ensures c.if-input-ne0.false in
-    few p c.state_count-n.ensures.0
+    let p = input_passes _ _ _ _ _ c.in_ok-input_refusal.ensures refl in
+    few p c.state_count.ensures.0
 
 pub slice_bounds-judged-end : goal.slice_bounds-judged-end
 slice_bounds-judged-end c =
-    let p = input_passes _ _ _ _ _ c.input_refusal-input.ensures c.if-input-ne0.false in
-    inside p c.state_count-n.ensures.0 c.minutely-minutely.ensures c.numbers_for-used.ensures
+    let p = input_passes _ _ _ _ _ c.in_ok-input_refusal.ensures refl in
+    inside p c.state_count.ensures.0 c.minutely-minutely.ensures c.numbers_for-used.ensures
 
 pub slice_bounds-judged-end-2 : goal.slice_bounds-judged-end-2
 slice_bounds-judged-end-2 c =
-    let p = input_passes _ _ _ _ _ c.input_refusal-input.ensures c.if-input-ne0.false in
-    sym (front p c.state_count-n.ensures.0 c.minutely-minutely.ensures c.numbers_for-used.ensures)
+    let p = input_passes _ _ _ _ _ c.in_ok-input_refusal.ensures refl in
+    sym (front p c.state_count.ensures.0 c.minutely-minutely.ensures c.numbers_for-used.ensures)
 
-pub judged-outcome-requires : goal.judged-outcome-requires
-judged-outcome-requires c =
-    let p = input_passes _ _ _ _ _ c.input_refusal-input.ensures c.if-input-ne0.false in
-    judgeable p c.state_count-n.ensures.0 c.arrow_count-m.ensures.0 c.node_count-k.ensures.0
-    (lent p c.state_count-n.ensures.0 c.minutely-minutely.ensures c.numbers_for-used.ensures)
+pub judged-tested-requires : goal.judged-tested-requires
+judged-tested-requires c =
+    let p = input_passes _ _ _ _ _ c.in_ok-input_refusal.ensures refl in
+    judgeable p c.state_count.ensures.0 c.arrow_count.ensures.0 c.node_count-k.ensures.0
+    (lent p c.state_count.ensures.0 c.minutely-minutely.ensures c.numbers_for-used.ensures)
 
 pub scratch_size-zeros-requires : goal.scratch_size-zeros-requires
 scratch_size-zeros-requires c =
-    let p = input_passes _ _ _ _ _ c.input_refusal-input.ensures c.if-input-ne0.false in
-    few p c.state_count-n.ensures.0
+    let p = input_passes _ _ _ _ _ c.in_ok-input_refusal.ensures refl in
+    few p c.state_count.ensures.0
 
 -- as many numbers come back as were lent, and what is cleared is no less
 pub slice_bounds-clear-end : goal.slice_bounds-clear-end
 slice_bounds-clear-end c =
-    let p = input_passes _ _ _ _ _ c.input_refusal-input.ensures c.if-input-ne0.false in
+    let p = input_passes _ _ _ _ _ c.in_ok-input_refusal.ensures refl in
     let size = c.scratch_size-zeros.ensures in
-    let states = c.state_count-n.ensures.0 in
+    let states = c.state_count.ensures.0 in
     let minutes = c.minutely-minutely.ensures in
     let works = c.numbers_for-used.ensures in
-    used_size _ _ c.args.scratch.now c.judged-outcome.new.numbers
-    (c.judged-outcome.auto.numbers ∙ front p states minutes works)
+    used_size _ _ c.args.scratch.now c.judged-tested.new.numbers
+    (c.judged-tested.auto.numbers ∙ front p states minutes works)
     (omega (arith, size, less p states minutes works)) (omega (arith, size, room p states minutes works))
 
 pub slice_bounds-clear-end-2 : goal.slice_bounds-clear-end-2
 slice_bounds-clear-end-2 c =
-    let p = input_passes _ _ _ _ _ c.input_refusal-input.ensures c.if-input-ne0.false in
+    let p = input_passes _ _ _ _ _ c.in_ok-input_refusal.ensures refl in
     let size = c.scratch_size-zeros.ensures in
-    let states = c.state_count-n.ensures.0 in
+    let states = c.state_count.ensures.0 in
     let minutes = c.minutely-minutely.ensures in
     let works = c.numbers_for-used.ensures in
-    used_front _ _ c.args.scratch.now c.judged-outcome.new.numbers
-    (c.judged-outcome.auto.numbers ∙ front p states minutes works)
+    used_front _ _ c.args.scratch.now c.judged-tested.new.numbers
+    (c.judged-tested.auto.numbers ∙ front p states minutes works)
     (omega (arith, size, less p states minutes works)) (omega (arith, size, room p states minutes works))
 
 pub returns : goal.returns
 returns c =
-    let p = input_passes _ _ _ _ _ c.input_refusal-input.ensures c.if-input-ne0.false in
+    let p = input_passes _ _ _ _ _ c.in_ok-input_refusal.ensures refl in
     let size = c.scratch_size-zeros.ensures in
-    let states = c.state_count-n.ensures.0 in
+    let states = c.state_count.ensures.0 in
     let minutes = c.minutely-minutely.ensures in
     let works = c.numbers_for-used.ensures in
-    judged_answered _ _ _ _ _ c.input_refusal-input.ensures c.if-input-ne0.false states
-    (size ∙ ap (λ b. size_for b c.state_count-n.result) minutes) c.judged-outcome.ensures
-    (cleared_front _ _ c.args.scratch.now c.judged-outcome.new.numbers
-    (c.judged-outcome.auto.numbers ∙ front p states minutes works)
+    judged_answered _ _ _ _ _ c.in_ok-input_refusal.ensures refl states
+    (size ∙ ap (λ b. size_for b c.state_count.result) minutes) c.judged-tested.ensures
+    (cleared_front _ _ c.args.scratch.now c.judged-tested.new.numbers
+    (c.judged-tested.auto.numbers ∙ front p states minutes works)
     (omega (arith, size, less p states minutes works)) (omega (arith, size, room p states minutes works))
     c.clear.new.numbers c.clear.auto.numbers c.clear.ensures)

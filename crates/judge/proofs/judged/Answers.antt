@@ -1,4 +1,5 @@
 -- Row 19, and then, from the last node down, all nodes.
+use mathlib.Core.Path.{refl}
 use Rattle.judge.proofs.Judgeable.{some_nodes, last_asks, all_settled}
 use borrow.Author.Rules.{rules}
 use Rattle.judge.proofs.judged.Goals as goal
@@ -7,7 +8,7 @@ pub overflow_sub-last : goal.overflow_sub-last
 overflow_sub-last c = some_nodes c.requires
 
 pub settle-requires : goal.settle-requires
-settle-requires c = last_asks c.requires c.loop_row-loops.ensures c.if-loops-ne0.false (search rules)
+settle-requires c = last_asks c.requires c.in_ok-loop_row.ensures refl (search rules)
 
 pub returns : goal.returns
-returns c = all_settled c.requires c.loop_row-loops.ensures c.if-loops-ne0.false c.settle.ensures
+returns c = all_settled c.requires c.in_ok-loop_row.ensures refl c.settle.ensures

@@ -1,38 +1,36 @@
--- Invariant: all of the line is there but what stands before the next newline.
-use mathlib.Core.Path.{◌≡◌, ap}
-use mathlib.Core.List.{List, ◌∷◌}
-use Prim.Native.Nat.{ℕ, ◌<◌, ◌+◌}
-use lib.ListN.{length, get_or, drop}
-use Rattle.lines.specs.Line.{before, line}
+-- The line is what stands before the first newline of the rest, or all of it.
+use mathlib.Core.Path.{◌≡◌, sym, ap, ◌∙◌}
+use mathlib.Core.List.{List}
+use Prim.Native.Nat.{ℕ}
 use native.Mathlib.Omega.{arith}
-use Rattle.lines.proofs.Passed.{before_end, before_newline, before_other}
-use Rattle.lines.proofs.Begun.{Begun, begun_none, begun_room, begun_more, begun_all}
+use lib.ListN.{length, take, drop}
+use Rattle.std.proofs.Common.{Option}
+use Rattle.std.specs.List.{position, between}
+use Rattle.std.specs.Option.{unwrap_or}
+use Rattle.std.proofs.lemmas.Slice.{between_to_end}
+use Rattle.append.proofs.Append.{appended_text, room_text}
+use Rattle.lines.specs.Line.{before, behind, line}
+use Rattle.lines.proofs.Passed.{newline, before_is}
 use Rattle.lines.proofs.put_line.Goals as goal
 
-pub loop-next-init : goal.loop-next-init
+-- what is copied is the line: line_start and newline together
+same :
+    (text : List ℕ) (i start : ℕ) {n : ℕ} {found : Option ℕ} → drop start text ≡ behind i text →
+    found ≡ position newline (between start (length text) text) →
+    n ≡ unwrap_or found (length (between start (length text) text)) →
+    take n (between start (length text) text) ≡ line i text
 unfolding line
-loop-next-init c = begun_none (ap before c.line_start-next.ensures.0)
+same text i start e f h =
+    before_is _ (h ∙ ap (λ o. unwrap_or o (length (between start (length text) text))) f) ∙
+    ap before (between_to_end text start (length text) (omega arith) ∙ e)
 
--- the next byte is one of the line
-ahead :
-    (text : List ℕ) (next : ℕ) {whole old new : List ℕ} {at end : ℕ} → next < length text → ¬ (get_or text next 0 ≡ 10) →
-    Begun whole (before (drop next text)) at end old new →
-    Begun whole (get_or text next 0 ∷ before (drop (next + 1) text)) at end old new
-ahead text next inside other p = rw (before_other text next inside other) at p
+pub put_word-requires : goal.put_word-requires
+put_word-requires c =
+    room_text
+    (sym (same c.args.text.now c.args.i _ c.line_start.ensures.0 c.newline.ensures c.unwrap_or-size.ensures))
+    c.requires
 
-pub put-end-requires : goal.put-end-requires
-put-end-requires c =
-    begun_room (ahead c.args.text.now c.loop-next.next c.loop-next-test.true (omega arith) c.loop-next.invariant) c.requires
-
-pub loop-next-preserved : goal.loop-next-preserved
-loop-next-preserved c =
-    begun_more
-    (ahead c.args.text.now c.loop-next.next c.loop-next-test.true (omega arith) c.loop-next.invariant)
-    c.put-end.ensures
-
-pub returns-else-text-next-ne10 : goal.returns-else-text-next-ne10
-returns-else-text-next-ne10 c =
-    begun_all (before_newline _ _ c.loop-next-test.true c.if-text-next-ne10.false) c.loop-next.invariant
-
-pub returns-after-loop-next : goal.returns-after-loop-next
-returns-after-loop-next c = begun_all (before_end _ _ c.loop-next-test.false) c.loop-next.invariant
+pub returns : goal.returns
+returns c =
+    appended_text (same c.args.text.now c.args.i _ c.line_start.ensures.0 c.newline.ensures c.unwrap_or-size.ensures)
+    c.put_word.ensures

@@ -1,28 +1,42 @@
--- Invariant: the first s marks are there.
-use mathlib.Core.Path.{ap}
-use mathlib.Core.List.{[], ◌∷◌}
-use Prim.Native.Nat.{ℕ}
+-- Invariant: the marks before the index are there.
+use mathlib.Core.Path.{◌≡◌}
+use mathlib.Core.List.{List, [], ◌∷◌}
+use Prim.Native.Nat.{ℕ, ◌+◌, ◌-◌, ◌<◌}
 use native.Mathlib.Omega.{arith}
-use Rattle.listing.specs.Text.{mark_line}
+use lib.ListN.{length, get_or, take, drop, length-take}
+use Rattle.std.proofs.lemmas.List.{get_or-take, get_or-drop}
+use Rattle.listing.specs.Text.{mark_digit, mark_line}
 use Rattle.append.proofs.Append.{appended_text}
 use Rattle.listing.proofs.Joined.{joined_none, joined_more, joined_room}
 use Rattle.listing.proofs.put_marks.Goals as goal
 
-pub loop-s-init : goal.loop-s-init
+-- byte i of the n bytes from start on
+module _ (start n i : ℕ) (marks : List ℕ) (h : i < length (take (start + n - start) (drop start marks))) where
+  below : i < n
+  below = omega (arith, h, length-take (start + n - start) (drop start marks))
+
+  digit :
+      {b : ℕ} → b ≡ mark_digit (get_or (take (start + n - start) (drop start marks)) i 0) →
+      b ∷ [] ≡ mark_digit (get_or marks (start + i) 0) ∷ []
+  digit e =
+      let inside : i < start + n - start = omega (arith, below) in
+      rw (e, get_or-take (start + n - start) (drop start marks) i 0, get_or-drop start marks i 0)
+
+pub loop-byte-init : goal.loop-byte-init
 unfolding mark_line
-loop-s-init c = (omega arith, joined_none _)
+loop-byte-init c = joined_none _
 
 pub put-end-requires : goal.put-end-requires
 unfolding mark_line
 put-end-requires c =
-    let loop = c.loop-s in
-    let below = c.loop-s-test.true in
-    rw c.mark_digit.ensures (joined_room _ loop.s c.args.n loop.invariant.1 below c.requires.1)
+    let a = c.args in
+    let loop = c.loop-byte in
+    rw (digit a.start a.n loop.byte-index a.marks.now c.loop-byte-test.true c.mark_digit.ensures)
+    (joined_room _ loop.byte-index a.n loop.invariant (below a.start a.n _ a.marks.now c.loop-byte-test.true) c.requires.1)
 
-pub loop-s-preserved : goal.loop-s-preserved
+pub loop-byte-preserved : goal.loop-byte-preserved
 unfolding mark_line
-loop-s-preserved c = (
-  omega arith,
-  joined_more _ c.loop-s.s c.loop-s.invariant.1
-      (appended_text (ap (λ (b : ℕ). b ∷ []) c.mark_digit.ensures) c.put-end.ensures),
-)
+loop-byte-preserved c =
+    let a = c.args in
+    joined_more _ c.loop-byte.byte-index c.loop-byte.invariant
+    (appended_text (digit a.start a.n _ a.marks.now c.loop-byte-test.true c.mark_digit.ensures) c.put-end.ensures)

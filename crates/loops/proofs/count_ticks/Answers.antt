@@ -19,17 +19,23 @@ ones :
     Begun (by_ticks n) (λ s. true) n (λ s. 1) new
 ones chart old new p size filled = begun (shaped p).some_states (subst (λ n. Filled n (λ s. 1) new) size filled)
 
+pub overflow_cast-cap : goal.overflow_cast-cap
+overflow_cast-cap c = omega (arith, (shaped c.args.chart.passed).few_states)
+
+pub overflow_add-cap : goal.overflow_add-cap
+overflow_add-cap c = omega (arith, (shaped c.args.chart.passed).few_states)
+
 pub settle-requires : goal.settle-requires
 settle-requires c =
     let p = c.requires in
-    let few = shaped p.0 in
+    let few = shaped c.args.chart.passed in
     record {
-      given = record { passed = p.0; size = search rules; fits = omega (arith, few.few_states) };
+      given = record { size = search rules; fits = omega (arith, few.few_states) };
       go = λ s. true;
-      ready = (ones _ _ c.begin.new.numbers p.0 p.1 c.begin.ensures).ready;
+      ready = (ones _ _ c.begin.new.numbers c.args.chart.passed p c.begin.ensures).ready;
     }
 
 pub returns : goal.returns
 returns c =
-    let b = ones _ _ c.begin.new.numbers c.requires.0 c.requires.1 c.begin.ensures in
-    ticks_counted c.args.chart.now b (c.settle.ensures (λ s. true) b.ready)
+    let b = ones _ _ c.begin.new.numbers c.args.chart.passed c.requires c.begin.ensures in
+    ticks_counted c.args.chart.bytes.now b (c.settle.ensures (λ s. true) b.ready)

@@ -8,7 +8,4 @@ use Rattle.map.proofs.entry_refusal.Given as goal
 -- Invariant: every entry before d names an overview state.
 abbrev pub invariant-loop-d : goal.invariant-loop-d
 invariant-loop-d l =
-    (l.d ≤ l.n) × ((v : ℕ) → v < l.d → leb l.k (entry l.map v) ≡ false)
-
-abbrev pub decreases-loop-d : goal.decreases-loop-d
-decreases-loop-d l = l.n - l.d
+    (v : ℕ) → v < l.d → leb l.k (entry l.map v) ≡ false

@@ -1,5 +1,4 @@
 use mathlib.Core.Path.{◌≡◌}
-use Prim.Native.Nat.{◌≤◌, ◌-◌}
 use lib.ListN.{length}
 use Rattle.chart.specs.Bytes.{chart_of}
 use Rattle.minute_rows.specs.Numbers.{task_in}
@@ -9,7 +8,5 @@ use Rattle.minute_rows.proofs.fill_rows_from.Given as goal
 -- Invariant: the rows with fewer minutes left are filled.
 abbrev pub invariant-loop-minute : goal.invariant-loop-minute
 invariant-loop-minute l =
-    (l.from ≤ l.minute) × (l.minute ≤ l.count) × (length l.numbers ≡ length l.initial.numbers) × RowsFilled (chart_of l.chart) l.n (task_in l.asked l.p l.q l.beyond) l.minute l.numbers
-
-abbrev pub decreases-loop-minute : goal.decreases-loop-minute
-decreases-loop-minute l = l.count - l.minute
+    (length l.numbers ≡ length l.initial.numbers) ×
+    RowsFilled (chart_of l.chart.bytes.now) l.chart.states (task_in l.asked l.p l.q l.beyond) l.minute l.numbers

@@ -9,23 +9,24 @@ use Rattle.moves.proofs.collect.Goals.{then-is_open, else-is_open}
 use Rattle.moves.proofs.collect.Goals as goal
 
 pub link-requires : goal.link-requires
-link-requires c = let p = c.requires.passed in (p, (shaped p).few_states, (shaped p).few_arrows)
+link-requires c = let p = c.requires.passed in ((shaped p).few_states, (shaped p).few_arrows)
 
 pub loop-s-preserved : goal.loop-s-preserved
 loop-s-preserved c =
     let a = c.args in
     let goes = open_in a.met a.p.now a.q.now in
-    let says = sym c.is_open.ensures in (
-      omega arith,
-      elim c.if-is_open.branch [
-        | then-is_open w ↦ rw (w.ends-is, w.words-is) (w.with_state-ends.ensures goes (says ∙ w.if-is_open.true) c.loop-s.invariant.1)
-        | else-is_open w ↦ rw (w.ends-is, w.words-is) (skipped a.chart.now (few_arrows c.requires.passed) goes (says ∙ w.if-is_open.false) c.loop-s.invariant.1)
-      ],
-    )
+    let says = sym c.is_open.ensures in
+    elim c.if-is_open.branch [
+      | then-is_open w ↦
+          rw (w.ends-is, w.words-is)
+          (w.with_state-ends.ensures goes (says ∙ w.if-is_open.true) c.loop-s.invariant)
+      | else-is_open w ↦
+          rw (w.ends-is, w.words-is)
+          (skipped a.chart.bytes.now (few_arrows c.requires.passed) goes (says ∙ w.if-is_open.false) c.loop-s.invariant)
+    ]
 
 pub returns : goal.returns
 returns c =
     let a = c.args in
-    let inv = c.loop-s.invariant in
-    collected_all a.chart.now (few_arrows c.requires.passed) (open_in a.met a.p.now a.q.now)
-    (λ j l. omega (arith, inv.0, (arrow_ends (counted c.requires.passed) j l).0)) inv.1
+    collected_all a.chart.bytes.now (few_arrows c.requires.passed) (open_in a.met a.p.now a.q.now)
+    (λ j l. omega (arith, (arrow_ends (counted c.requires.passed) j l).0)) c.loop-s.invariant

@@ -1,4 +1,3 @@
-use Prim.Native.Nat.{◌≤◌, ◌-◌}
 use Rattle.moves.specs.Moves.{open_in}
 use Rattle.moves.specs.Turns.{Before}
 use Rattle.moves.proofs.collect.Given as goal
@@ -7,7 +6,4 @@ use Rattle.moves.proofs.collect.Given as goal
 -- arrows that a chart has.
 abbrev pub invariant-loop-s : goal.invariant-loop-s
 invariant-loop-s l =
-    (l.s ≤ l.n) × Before l.chart (open_in l.met l.p l.q) l.s l.ends l.words
-
-abbrev pub decreases-loop-s : goal.decreases-loop-s
-decreases-loop-s l = l.n - l.s
+    Before l.chart.bytes.now (open_in l.met l.p l.q) l.s l.ends l.words

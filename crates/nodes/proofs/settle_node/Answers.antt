@@ -1,11 +1,15 @@
 -- Each operation writes the row of its formula, by the laws of Settled.
-use mathlib.Core.Path.{◌≡◌}
+use mathlib.Core.Path.{◌≡◌, sym, ap, ◌∙◌}
+use mathlib.Core.Logic.{◌⊎◌, inl, inr}
 use mathlib.Core.Bool.{Bool}
 use mathlib.Core.List.{List}
 use Prim.Native.Nat.{ℕ, ◌≤◌}
 use native.Mathlib.Omega.{arith}
 use Rattle.chart.proofs.Reading.{labels_inside}
 use Rattle.rule.specs.Bytes.{node_words}
+use Rattle.rule.specs.declared.operation.Operation.{Operation}
+use Rattle.rule.specs.declared.operation.Operation.TheVariants.{SomeUntil, AllUntil}
+use Rattle.rule.specs.Operations.{byte_of}
 use Rattle.rule.specs.declared.NodeWords.{NodeWords}
 use Rattle.rule.proofs.Accepted.{accepted}
 use Rattle.rule.proofs.Read.{ReadNode, known, label_low, until_bound, a_lower, b_lower}
@@ -25,74 +29,85 @@ module _ {counting : Bool} {rule : List ℕ} {t : ℕ} {w : NodeWords} (p : Acce
   low : 3 ≤ w.operation → OperandsBelow t w
   low two = record { left = a_lower node (omega (arith, two)); right = b_lower node two }
 
+-- the operation's byte
+is : {o p : Operation} {byte : ℕ} → byte_of o ≡ byte → o ≡ p → byte ≡ byte_of p
+is e f = sym e ∙ ap byte_of f
+
+-- the bytes of the untils are 5 and 6
+an_until : {o : Operation} {byte : ℕ} → byte_of o ≡ byte → (o ≡ SomeUntil) ⊎ (o ≡ AllUntil) → 5 ≤ byte
+an_until e (inl f) = omega (arith, is e f)
+an_until e (inr f) = omega (arith, is e f)
+
+pub known_operation-requires : goal.known_operation-requires
+known_operation-requires c = known (node c.requires.workable.1 c.node_at-node.ensures.0)
+
 pub node_at-node-requires : goal.node_at-node-requires
 node_at-node-requires c =
     let w = c.requires.workable.1 in
     omega (arith, (accepted _ w.unrefused).shape.whole, w.inside)
 
-pub returns-then-node-eq-TRUE : goal.returns-then-node-eq-TRUE
-returns-then-node-eq-TRUE c =
+pub returns-in-True : goal.returns-in-True
+returns-in-True c =
     let p = c.requires in
     settled_always p.workable.0.passed (node p.workable.1 c.node_at-node.ensures.0) p.operands_right
-    c.if-node-eq-TRUE.true
+    (is c.known_operation.ensures c.in-True.is)
     c.fill.ensures
 
 pub fill_label-requires : goal.fill_label-requires
 fill_label-requires c =
     let p = c.requires.workable in
-    let low = label_low (node p.1 c.node_at-node.ensures.0) c.if-node-eq-LABEL.true in
+    let low = label_low (node p.1 c.node_at-node.ensures.0) (is c.known_operation.ensures c.in-Label.is) in
     (labels_inside p.0.passed, low, p.0.table)
 
-pub returns-then-node-eq-LABEL : goal.returns-then-node-eq-LABEL
-returns-then-node-eq-LABEL c =
+pub returns-in-Label : goal.returns-in-Label
+returns-in-Label c =
     let p = c.requires in
     settled_label p.workable.0.passed (node p.workable.1 c.node_at-node.ensures.0) p.operands_right
-    c.if-node-eq-LABEL.true
+    (is c.known_operation.ensures c.in-Label.is)
     c.fill_label.ensures
 
-pub fill-requires-then-node-eq-NOT : goal.fill-requires-then-node-eq-NOT
-fill-requires-then-node-eq-NOT c =
+pub fill-requires-in-Not : goal.fill-requires-in-Not
+fill-requires-in-Not c =
     let p = c.requires.workable in
-    let left = a_lower (node p.1 c.node_at-node.ensures.0) (omega (arith, c.if-node-eq-NOT.true)) in
+    let left = a_lower (node p.1 c.node_at-node.ensures.0) (omega (arith, is c.known_operation.ensures c.in-Not.is)) in
     (p.0.table, omega (arith, left), omega (arith, left))
 
-pub returns-then-node-eq-NOT : goal.returns-then-node-eq-NOT
-returns-then-node-eq-NOT c =
+pub returns-in-Not : goal.returns-in-Not
+returns-in-Not c =
     let p = c.requires in
     settled_not p.workable.0.passed (node p.workable.1 c.node_at-node.ensures.0) p.operands_right
-    c.if-node-eq-NOT.true
-    c.fill-then-node-eq-NOT.ensures
+    (is c.known_operation.ensures c.in-Not.is)
+    c.fill-in-Not.ensures
 
-pub fill-requires-then-node-eq-AND : goal.fill-requires-then-node-eq-AND
-fill-requires-then-node-eq-AND c =
+pub fill-requires-in-And : goal.fill-requires-in-And
+fill-requires-in-And c =
     let p = c.requires.workable in
-    let both = low p.1 c.node_at-node.ensures.0 (omega (arith, c.if-node-eq-AND.true)) in
+    let both = low p.1 c.node_at-node.ensures.0 (omega (arith, is c.known_operation.ensures c.in-And.is)) in
     (p.0.table, omega (arith, both.left), omega (arith, both.right))
 
-pub returns-then-node-eq-AND : goal.returns-then-node-eq-AND
-returns-then-node-eq-AND c =
+pub returns-in-And : goal.returns-in-And
+returns-in-And c =
     let p = c.requires in
     settled_and p.workable.0.passed (node p.workable.1 c.node_at-node.ensures.0) p.operands_right
-    c.if-node-eq-AND.true
-    c.fill-then-node-eq-AND.ensures
+    (is c.known_operation.ensures c.in-And.is)
+    c.fill-in-And.ensures
 
-pub fill-requires-then-node-eq-OR : goal.fill-requires-then-node-eq-OR
-fill-requires-then-node-eq-OR c =
+pub fill-requires-in-Or : goal.fill-requires-in-Or
+fill-requires-in-Or c =
     let p = c.requires.workable in
-    let both = low p.1 c.node_at-node.ensures.0 (omega (arith, c.if-node-eq-OR.true)) in
+    let both = low p.1 c.node_at-node.ensures.0 (omega (arith, is c.known_operation.ensures c.in-Or.is)) in
     (p.0.table, omega (arith, both.left), omega (arith, both.right))
 
-pub returns-then-node-eq-OR : goal.returns-then-node-eq-OR
-returns-then-node-eq-OR c =
+pub returns-in-Or : goal.returns-in-Or
+returns-in-Or c =
     let p = c.requires in
-    settled_or p.workable.0.passed (node p.workable.1 c.node_at-node.ensures.0) p.operands_right c.if-node-eq-OR.true
-    c.fill-then-node-eq-OR.ensures
+    settled_or p.workable.0.passed (node p.workable.1 c.node_at-node.ensures.0) p.operands_right (is c.known_operation.ensures c.in-Or.is)
+    c.fill-in-Or.ensures
 
 pub settle_until-requires : goal.settle_until-requires
 settle_until-requires c =
     let p = c.requires.workable in
-    -- an operation that is none of the first five
-    let above : 5 ≤ c.node_at-node.result.operation = omega arith in
+    let above = an_until c.known_operation.ensures c.in-SomeUntil.is in
     let read = node p.1 c.node_at-node.ensures.0 in
     let kind = until_bound read above in (
       workable_fewer p.0 (some_minutely c.args.counting read),
@@ -106,9 +121,9 @@ settle_until-requires c =
       },
     )
 
-pub returns : goal.returns
-returns c =
+pub returns-in-SomeUntil : goal.returns-in-SomeUntil
+returns-in-SomeUntil c =
     let p = c.requires in
-    let above : 5 ≤ c.node_at-node.result.operation = omega arith in
+    let above = an_until c.known_operation.ensures c.in-SomeUntil.is in
     settled_until p.workable.0.passed (node p.workable.1 c.node_at-node.ensures.0) p.operands_right above
     c.settle_until.ensures

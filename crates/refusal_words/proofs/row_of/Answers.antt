@@ -1,4 +1,4 @@
--- The numbers between one test and the next are rows one after another, or none.
+-- The numbers of each range are rows one after another, and those before, between and behind have none.
 use mathlib.Core.Path.{refl}
 use Prim.Native.Nat.{◌-◌}
 use native.Mathlib.Omega.{arith}
@@ -8,21 +8,21 @@ use Rattle.refusal_words.specs.Sentences.{row_of}
 use Rattle.refusal_words.proofs.Rows.{late_row}
 use Rattle.refusal_words.proofs.row_of.Goals as goal
 
-pub returns-then-number-lt1 : goal.returns-then-number-lt1
+pub returns-in-1-to-23 : goal.returns-in-1-to-23
 unfolding lowest row_of
-returns-then-number-lt1 c = agree (λ n. 30) row_of 0 1 refl (omega arith) c.if-number-lt1.true
+returns-in-1-to-23 c = agree (λ n. n - 1) row_of 1 23 refl (omega arith) (omega arith)
 
-pub returns-then-number-lt24 : goal.returns-then-number-lt24
+pub returns-in-60-to-66 : goal.returns-in-60-to-66
 unfolding lowest row_of
-returns-then-number-lt24 c = agree (λ n. n - 1) row_of 1 23 refl c.if-number-lt1.false c.if-number-lt24.true
+returns-in-60-to-66 c = agree (λ n. n - 37) row_of 60 7 refl (omega arith) (omega arith)
 
-pub returns-then-number-lt60 : goal.returns-then-number-lt60
+pub returns-in_default : goal.returns-in_default
 unfolding lowest row_of
-returns-then-number-lt60 c = agree (λ n. 30) row_of 24 36 refl c.if-number-lt24.false c.if-number-lt60.true
+returns-in_default c = agree (λ n. 30) row_of 0 1 refl (omega arith) (omega arith)
 
-pub returns-then-number-lt67 : goal.returns-then-number-lt67
+pub returns-in_default-2 : goal.returns-in_default-2
 unfolding lowest row_of
-returns-then-number-lt67 c = agree (λ n. n - 37) row_of 60 7 refl c.if-number-lt60.false c.if-number-lt67.true
+returns-in_default-2 c = agree (λ n. 30) row_of 24 36 refl (omega arith) (omega arith)
 
-pub returns : goal.returns
-returns c = late_row c.if-number-lt67.false
+pub returns-in_default-3 : goal.returns-in_default-3
+returns-in_default-3 c = late_row (omega arith)

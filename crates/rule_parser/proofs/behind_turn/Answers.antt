@@ -1,10 +1,8 @@
 -- Each case of what is open around the operand.
-use mathlib.Core.Path.{sym, ◌∙◌}
 use native.Mathlib.Omega.{arith}
+use Rattle.std.proofs.lemmas.Result.{err_from_is_err_and}
 use Rattle.rule_parser.proofs.Around.{one_node_lem}
-use Rattle.rule_parser.proofs.BehindTurn.{finished, negated_one, opening_low}
-use Rattle.rule_parser.proofs.BehindTurn.{opening_of, unsigned_one, number_small, room_kept}
-use Rattle.rule_parser.proofs.BehindTurn.{signed_one, four_deep, closed_one, open_one}
+use Rattle.rule_parser.proofs.BehindTurn.{finished, negated_one, opening_low, opening_of, signed, four_deep, closed}
 use Rattle.rule_parser.proofs.behind_turn.Goals as goal
 
 pub returns-then-depth-eq0 : goal.returns-then-depth-eq0
@@ -15,37 +13,46 @@ overflow_sub-s c = one_node_lem _ _ _ _ c.requires.0
 
 pub returns-then-tag-eq-NOT : goal.returns-then-tag-eq-NOT
 returns-then-tag-eq-NOT c =
-    negated_one _ _ _ _ c.requires.0 c.requires.1 c.if-depth-eq0.false c.if-tag-eq-NOT.true c.low_byte-operand.ensures
-    c.put_node.ensures c.stand.ensures
+    rw (c.stand.ensures, c.put_node.ensures, c.low_byte-operand.ensures)
+    (negated_one _ _ _ _ c.requires.0 c.requires.1 c.if-depth-eq0.false c.if-tag-eq-NOT.true)
 
-pub sign-token-requires : goal.sign-token-requires
-sign-token-requires c = (
+pub sign-requires : goal.sign-requires
+sign-requires c = (
   c.requires.1.read,
   opening_low _ _ _ _ c.requires.0 c.requires.1 c.if-depth-eq0.false c.if-tag-eq-NOT.false c.if-tag-lt-JOINED.true,
   opening_of _ _ _ _ c.requires.0 c.requires.1 c.if-depth-eq0.false c.if-tag-eq-NOT.false c.if-tag-lt-JOINED.true,
 )
 
-pub returns-then-token-eq-NONE : goal.returns-then-token-eq-NONE
-returns-then-token-eq-NONE c =
-    unsigned_one _ _ _ _ c.requires.0 c.requires.1 c.if-depth-eq0.false c.if-tag-eq-NOT.false c.if-tag-lt-JOINED.true
-    _ c.sign-token.ensures c.if-token-eq-NONE.true c.stop.ensures
+pub returns-in_err-token : goal.returns-in_err-token
+returns-in_err-token c =
+    let p = err_from_is_err_and c.from_residual.result c.from_residual.ensures.1 in
+    rw (p.1, p.2)
+    (signed _ _ _ _ c.requires.0 c.requires.1 c.if-depth-eq0.false c.if-tag-eq-NOT.false c.if-tag-lt-JOINED.true
+    c.in_err-token.ensures)
 
 pub overflow_sub-s-then-tag-lt-JOINED : goal.overflow_sub-s-then-tag-lt-JOINED
 overflow_sub-s-then-tag-lt-JOINED c = one_node_lem _ _ _ _ c.requires.0
 
 pub push_join-requires : goal.push_join-requires
-push_join-requires c = (
-  number_small _ _ _ _ c.requires.0 c.requires.1 c.if-depth-eq0.false c.if-tag-eq-NOT.false c.if-tag-lt-JOINED.true _
-      c.sign-token.ensures c.if-token-eq-NONE.false,
-  room_kept _ _ _ _ c.requires.0 c.requires.1 c.if-depth-eq0.false c.if-tag-eq-NOT.false c.if-tag-lt-JOINED.true _
-      c.sign-token.ensures c.if-token-eq-NONE.false,
-)
+push_join-requires c =
+    let token =
+    signed _ _ _ _ c.requires.0 c.requires.1 c.if-depth-eq0.false c.if-tag-eq-NOT.false c.if-tag-lt-JOINED.true
+    c.in_ok-token.ensures in
+    (token.small, token.room)
 
 pub returns-then-tag-lt-JOINED : goal.returns-then-tag-lt-JOINED
 returns-then-tag-lt-JOINED c =
-    signed_one _ _ _ _ c.requires.0 c.requires.1 c.if-depth-eq0.false c.if-tag-eq-NOT.false c.if-tag-lt-JOINED.true _
-    c.sign-token.ensures c.if-token-eq-NONE.false c.low_byte-left.ensures c.push_join.ensures
-    c.stand-then-tag-lt-JOINED.ensures
+    let token =
+    signed _ _ _ _ c.requires.0 c.requires.1 c.if-depth-eq0.false c.if-tag-eq-NOT.false c.if-tag-lt-JOINED.true
+    c.in_ok-token.ensures in
+    rw (c.stand-then-tag-lt-JOINED.ensures, c.push_join.ensures, c.low_byte-left.ensures) token.turned
+
+pub returns-in_err-end : goal.returns-in_err-end
+returns-in_err-end c =
+    let p = err_from_is_err_and c.from_residual-in_err-end.result c.from_residual-in_err-end.ensures.1 in
+    rw (p.1, p.2)
+    (closed _ _ _ _ c.requires.0 c.requires.1 c.if-depth-eq0.false c.if-tag-eq-NOT.false c.if-tag-lt-JOINED.false
+    c.in_err-end.ensures)
 
 pub overflow_sub-below : goal.overflow_sub-below
 overflow_sub-below c =
@@ -60,12 +67,8 @@ put_join-requires c =
       c.requires.0.noded.size,
     )
 
-pub returns-then-stands : goal.returns-then-stands
-returns-then-stands c =
-    closed_one _ _ _ _ c.requires.0 c.requires.1 c.if-depth-eq0.false c.if-tag-eq-NOT.false c.if-tag-lt-JOINED.false
-    (sym c.stands.ensures.0 ∙ c.if-stands.true) c.put_join.ensures c.stand-then-stands.ensures
-
 pub returns : goal.returns
 returns c =
-    open_one _ _ _ _ c.requires.0 c.requires.1 c.if-depth-eq0.false c.if-tag-eq-NOT.false c.if-tag-lt-JOINED.false
-    (sym c.stands.ensures.0 ∙ c.if-stands.false) c.stop-2.ensures
+    rw (c.stand-2.ensures, c.put_join.ensures)
+    (closed _ _ _ _ c.requires.0 c.requires.1 c.if-depth-eq0.false c.if-tag-eq-NOT.false c.if-tag-lt-JOINED.false
+    c.in_ok-end.ensures)

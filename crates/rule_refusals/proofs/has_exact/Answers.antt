@@ -17,4 +17,4 @@ pub returns-then-node_at-eq-EXACTLY : goal.returns-then-node_at-eq-EXACTLY
 returns-then-node_at-eq-EXACTLY c = sym (exact_some _ _ c.loop-t.t (omega (arith, c.node_count-k.ensures.0)) (ap is_exact (sym c.node_at.ensures.0) ∙ eq-eqb _ 3 c.if-node_at-eq-EXACTLY.true))
 
 pub returns : goal.returns
-returns c = sym (none_exact _ _ (λ t l. c.loop-t.invariant.1 t (omega (arith, c.node_count-k.ensures.0))))
+returns c = sym (none_exact _ _ (λ t l. c.loop-t.invariant t (omega (arith, c.node_count-k.ensures.0))))

@@ -8,7 +8,4 @@ use Rattle.rule_refusals.proofs.has_exact.Given as goal
 -- The invariant: no node before t has an exact bound.
 abbrev pub invariant-loop-t : goal.invariant-loop-t
 invariant-loop-t l =
-    (l.t ≤ l.k) × ((u : ℕ) → u < l.t → is_exact (node_words l.rule u) ≡ false)
-
-abbrev pub decreases-loop-t : goal.decreases-loop-t
-decreases-loop-t l = l.k - l.t
+    (u : ℕ) → u < l.t → is_exact (node_words l.rule u) ≡ false

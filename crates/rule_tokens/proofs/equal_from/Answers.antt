@@ -1,7 +1,8 @@
 -- "=", the number, and the space.
-use mathlib.Core.Path.{◌≡◌, refl, ap, ◌∙◌}
+use mathlib.Core.Path.{◌≡◌, refl, sym, ap, ◌∙◌}
 use Prim.Native.Nat.{ℕ, ◌+◌, ◌*◌}
 use native.Mathlib.Omega.{arith}
+use Rattle.std.proofs.Common.{Some}
 use Rattle.tctl.specs.Kind.{Runs, some_run, all_runs}
 use Rattle.rule_grammar.specs.Machine.{Sign, until}
 use Rattle.rule_bytes.proofs.Bounds.{kind_same}
@@ -17,7 +18,8 @@ until_tag_same all_runs s c = ap (λ k. 8 * 6 + k) (kind_same s c)
 pub space_from-requires : goal.space_from-requires
 space_from-requires c =
     let of = c.requires.1 in
-    let v = c.number_from-number.result.value in (
-      rw c.number_from-number.ensures (number_ends _ _ _ (omega (arith, c.stands.ensures.1 c.if-stands.true))),
+    let v = c.in_ok-number.number.value in
+    let there : c.number_from.result ≡ Some c.in_ok-number.number = grind arith in (
+      number_ends c.args.most c.args.text.now c.in_ok-from.from (sym c.number_from.ensures ∙ there),
       record { join = until of.runs of.sign v; same = of.same ∙ until_tag_same of.runs of.sign v; same_number = refl },
     )

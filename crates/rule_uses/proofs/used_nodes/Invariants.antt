@@ -1,4 +1,3 @@
-use Prim.Native.Nat.{◌-◌, ◌≤◌}
 use Rattle.rule.specs.Refusals.{uses}
 use Rattle.rule_uses.specs.Counted.{Counted}
 use Rattle.rule_uses.proofs.used_nodes.Given as goal
@@ -6,7 +5,4 @@ use Rattle.rule_uses.proofs.used_nodes.Given as goal
 -- The invariant: the sets count what the first t nodes use.
 abbrev pub invariant-loop-t : goal.invariant-loop-t
 invariant-loop-t l =
-    (l.t ≤ l.k) × Counted l.used (uses l.rule l.t)
-
-abbrev pub decreases-loop-t : goal.decreases-loop-t
-decreases-loop-t l = l.k - l.t
+    Counted l.used (uses l.rule l.t)

@@ -1,5 +1,8 @@
 -- Invariant: the lines before position i are there, and those from i on complete the text.
+use mathlib.Core.Path.{◌≡◌}
+use Prim.Native.Nat.{◌-◌, ◌/◌}
 use native.Mathlib.Omega.{arith}
+use lib.ListN.{length}
 use Rattle.run_listing.proofs.Before.{lines_more, lines_last, step_room, end_room}
 use Rattle.run_listing.proofs.list_run.Goals as goal
 
@@ -18,4 +21,5 @@ put_end-requires c = end_room c.requires c.loop-i.invariant c.ranges.c.fits c.st
 
 pub returns : goal.returns
 returns c =
-    lines_last c.requires c.loop-i.invariant c.ranges.c.fits c.state_at-2.ensures (omega arith) c.put_end.ensures
+    let e : length c.args.run.now / 6 - 1 ≡ c.loop-i.i = omega arith in
+    lines_last c.requires c.loop-i.invariant c.ranges.c.fits (rw e at c.state_at-2.ensures) (omega arith) c.put_end.ensures

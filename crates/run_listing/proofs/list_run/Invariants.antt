@@ -1,4 +1,3 @@
-use Prim.Native.Nat.{◌-◌}
 use Rattle.run_listing.proofs.Before.{LinesBefore}
 use Rattle.run_listing.proofs.list_run.Given as goal
 
@@ -6,6 +5,3 @@ use Rattle.run_listing.proofs.list_run.Given as goal
 abbrev pub invariant-loop-i : goal.invariant-loop-i
 invariant-loop-i l =
     LinesBefore l.run l.all l.c l.initial.out l.out l.moment l.end l.i
-
-abbrev pub decreases-loop-i : goal.decreases-loop-i
-decreases-loop-i l = l.last - l.i

@@ -11,17 +11,17 @@ returns-then-settled-number c =
     let inv = c.loop-i.invariant in
     let l = c.loop-i-test.true in
     let own = ap (λ w. w.start) c.arrow-a.ensures.0 ∙ inv.leaves l in (
-      tight_found a.measure a.chart.now a.n a.table.now a.at a.s c.loop-i.i c.arrow-a.ensures.0 own
-          (_, c.weight.ensures, c.settled.ensures) c.if-settled-number.true (omega (arith, l, c.requires.0.arrows))
-          inv.under,
+      tight_found a.measure a.chart.bytes.now a.chart.states a.table.now a.at a.s c.loop-i.i c.arrow-a.ensures.0 own
+          (_, c.weight.ensures, c.settled.ensures) c.if-settled-number.true
+          (omega (arith, l, a.chart.passed.arrows)) inv.under,
       l,
     )
 
 pub returns : goal.returns
 returns c =
     let a = c.args in
-    let p = c.requires.0 in (
-      tight_none a.measure a.chart.now a.n a.table.now a.at a.s
+    let p = c.args.chart.passed in (
+      tight_none a.measure a.chart.bytes.now a.chart.states a.table.now a.at a.s
           (λ i l. c.loop-i.invariant.under i (omega (arith, c.loop-i-test.false, p.arrows))),
       omega (arith, (shaped p).some_arrows),
     )

@@ -12,8 +12,8 @@ find_by_steps-requires c =
       passed = p.passed;
       operands =
           record {
-            first = lent_length (a.w.a * a.n) a.n a.marks.now p.left;
-            second = lent_length (a.w.b * a.n) a.n a.marks.now p.right;
+            first = lent_length (a.w.a * a.chart.states) a.chart.states a.marks.now p.left;
+            second = lent_length (a.w.b * a.chart.states) a.chart.states a.marks.now p.right;
           };
       fair = rw c.target_of.ensures (fair_target a.w p.small);
       state = p.inside;

@@ -3,4 +3,4 @@ use Rattle.chart.proofs.Reading.{shaped}
 use Rattle.step_table.proofs.fewest_steps.Goals as goal
 
 pub fill_weights-requires : goal.fill_weights-requires
-fill_weights-requires c = let p = c.requires.passed in (p, (shaped p).few_arrows)
+fill_weights-requires c = (shaped c.args.chart.passed).few_arrows

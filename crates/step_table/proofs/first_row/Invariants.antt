@@ -1,4 +1,3 @@
-use Prim.Native.Nat.{◌≤◌, ◌-◌}
 use Rattle.base.specs.Entries.{Entries}
 use Rattle.step_table.specs.Table.{row_base}
 use Rattle.step_table.proofs.first_row.Given as goal
@@ -6,7 +5,4 @@ use Rattle.step_table.proofs.first_row.Given as goal
 -- Invariant: the numbers before s are the base's, as they are stored.
 abbrev pub invariant-loop-s : goal.invariant-loop-s
 invariant-loop-s l =
-    (l.s ≤ l.n) × Entries 0 l.s (row_base l.target l.p l.q) l.initial.table l.table
-
-abbrev pub decreases-loop-s : goal.decreases-loop-s
-decreases-loop-s l = l.n - l.s
+    Entries 0 l.s (row_base l.target l.p l.q) l.initial.table l.table

@@ -3,7 +3,4 @@ use Rattle.sweeps.proofs.last_raising.Given as goal
 
 -- Invariant: the arrows from i on and before k raise no number.
 abbrev pub invariant-loop-i : goal.invariant-loop-i
-invariant-loop-i l = Quiet l.way l.chart l.floor l.i l.k l.numbers
-
-abbrev pub decreases-loop-i : goal.decreases-loop-i
-decreases-loop-i l = l.i
+invariant-loop-i l = Quiet l.way l.chart.bytes.now l.floor l.i l.k l.numbers

@@ -1,17 +1,16 @@
--- Invariant: the first i spaces are there.
-use native.Mathlib.Omega.{arith}
+-- Invariant: as many spaces are there as were counted.
 use Rattle.listing.proofs.Joined.{joined_none, joined_more, joined_room}
 use Rattle.typed_listing.specs.Refused.{spaces}
 use Rattle.typed_listing.proofs.put_spaces.Goals as goal
 
-pub loop-i-init : goal.loop-i-init
+pub loop-init : goal.loop-init
 unfolding spaces
-loop-i-init c = (omega arith, joined_none _)
+loop-init c = joined_none _
 
 pub put-end-requires : goal.put-end-requires
 unfolding spaces
-put-end-requires c = joined_room _ c.loop-i.i c.args.count c.loop-i.invariant.1 c.loop-i-test.true c.requires
+put-end-requires c = joined_room _ c.loop.counter c.args.count c.loop.invariant c.loop-test.true c.requires
 
-pub loop-i-preserved : goal.loop-i-preserved
+pub loop-preserved : goal.loop-preserved
 unfolding spaces
-loop-i-preserved c = (omega arith, joined_more _ c.loop-i.i c.loop-i.invariant.1 c.put-end.ensures)
+loop-preserved c = joined_more _ c.loop.counter c.loop.invariant c.put-end.ensures

@@ -10,14 +10,14 @@ pub returns-then-all : goal.returns-then-all
 returns-then-all c =
     let a = c.args in
     rw c.if-all.true
-    (from_failed true a.chart.now a.n a.t a.node a.marks.now c.if-node-eq0.true refl c.plain_row.ensures
-    c.fill.ensures)
+    (from_failed true a.chart.bytes.now a.chart.states a.t a.node a.marks.now c.if-node-eq0.true refl
+    c.plain_row.ensures c.fill.ensures)
 
 pub returns-then-node-eq0 : goal.returns-then-node-eq0
 returns-then-node-eq0 c =
     let a = c.args in
     rw c.if-all.false
-    (from_met false a.chart.now a.n a.t a.node a.marks.now c.if-node-eq0.true refl
+    (from_met false a.chart.bytes.now a.chart.states a.t a.node a.marks.now c.if-node-eq0.true refl
     c.plain_row-then-node-eq0.ensures)
 
 pub returns : goal.returns

@@ -4,4 +4,6 @@ use Rattle.until_minutes.proofs.Parts.{task_parts}
 use Rattle.until_minutes.proofs.fill_rows.Goals as goal
 
 pub returns : goal.returns
-returns c = let a = c.args in filled_same c.requires.0.passed (task_parts a.n a.node a.marks.now a.asked a.t) c.fill_rows.ensures
+returns c =
+    let a = c.args in
+    filled_same c.requires.0.passed (task_parts a.chart.states a.node a.marks.now a.asked a.t) c.fill_rows.ensures

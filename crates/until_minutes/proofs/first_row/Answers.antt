@@ -8,4 +8,7 @@ pub fill_row-requires : goal.fill_row-requires
 fill_row-requires c = first_ready _ c.requires
 
 pub returns : goal.returns
-returns c = let a = c.args in filled_same c.requires.lent.passed (task_parts a.n a.node a.marks.now (plain_asked a.all) a.t) c.fill_row.ensures
+returns c =
+    let a = c.args in
+    filled_same c.requires.lent.passed (task_parts a.chart.states a.node a.marks.now (plain_asked a.all) a.t)
+    c.fill_row.ensures

@@ -9,4 +9,4 @@ returns c =
     let a = c.args in
     let p = c.requires in
     written_as c.fill_limit.ensures
-    (last_says a.asked.all {w = task_by a.asked a.n a.t a.node a.marks.now} p.1 p.2 c.fill_rows.ensures)
+    (last_says a.asked.all {w = task_by a.asked a.chart.states a.t a.node a.marks.now} p.1 p.2 c.fill_rows.ensures)

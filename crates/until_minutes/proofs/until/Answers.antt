@@ -13,13 +13,13 @@ returns-then-node-eq-AT_LEAST c =
     let l = c.requires.0 in
     let a = c.args in
     rw c.if-node-eq-AT_LEAST.true
-    (from_later a.all a.chart.now a.n a.t a.node a.marks.now (joins l.passed) l.operands (at_least a.node.c)
-    c.begin.ensures c.at_least.ensures)
+    (from_later a.all a.chart.bytes.now a.chart.states a.t a.node a.marks.now (joins l.passed) l.operands
+    (at_least a.node.c) c.begin.ensures c.at_least.ensures)
 
 pub returns : goal.returns
 returns c =
     let l = c.requires.0 in
     let a = c.args in
     rw (ne_eqb _ 2 c.if-node-eq-AT_LEAST.false)
-    (from_last a.all a.chart.now a.n a.t a.node a.marks.now (joins l.passed) l.operands (eqb a.node.kind 1)
-    c.met_by-met.ensures (add-one _) c.begin.ensures c.last_row.ensures)
+    (from_last a.all a.chart.bytes.now a.chart.states a.t a.node a.marks.now (joins l.passed) l.operands
+    (eqb a.node.kind 1) c.met_by-met.ensures (add-one _) c.begin.ensures c.last_row.ensures)

@@ -13,7 +13,7 @@ pub run-requires : goal.run-requires
 run-requires c =
     let a = c.args in
     let p = c.requires in
-    let holds : ℕ → ℕ → Bool = mark a.n a.marks.now in
+    let holds : ℕ → ℕ → Bool = mark a.chart.states a.marks.now in
     let filled = c.fill_numbers.ensures in
     let begun = initial_begun a.initial (holds a.node.a) (holds a.node.b) a.way p.2.low p.2.limit filled in (
       record { passed = p.0.passed; table = p.0.table; size = filled.size },
@@ -28,7 +28,7 @@ pub returns : goal.returns
 returns c =
     let a = c.args in
     let p = c.requires in
-    let holds : ℕ → ℕ → Bool = mark a.n a.marks.now in
+    let holds : ℕ → ℕ → Bool = mark a.chart.states a.marks.now in
     let go : ℕ → Bool = λ s. go_of a.initial (holds a.node.a s) (holds a.node.b s) in
     let begun =
     initial_begun a.initial (holds a.node.a) (holds a.node.b) a.way p.2.low p.2.limit c.fill_numbers.ensures in (
@@ -37,6 +37,6 @@ returns c =
         size = search rules;
         is =
             (c.run.ensures.1 go begun.ready).is ∙
-            ap (λ vs. settled a.way a.chart.now a.n go (minutes_of a.way vs)) begun.starts;
+            ap (λ vs. settled a.way a.chart.bytes.now a.chart.states go (minutes_of a.way vs)) begun.starts;
       },
     )

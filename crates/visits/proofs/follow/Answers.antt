@@ -2,5 +2,5 @@
 use Rattle.visits.proofs.Went.{went_none}
 use Rattle.visits.proofs.follow.Goals as goal
 
-pub returns-then-m-i : goal.returns-then-m-i
-returns-then-m-i c = λ go r. went_none r
+pub returns-then-chart-i : goal.returns-then-chart-i
+returns-then-chart-i c = λ go r. went_none r

@@ -4,9 +4,9 @@ use Rattle.visits.proofs.Went.{went_none, went_both}
 use Rattle.walks.proofs.pass.Goals as goal
 
 pub loop-k-init : goal.loop-k-init
-loop-k-init c = (omega arith, c.requires.size, λ go r. went_none r)
+loop-k-init c = (c.requires.size, λ go r. went_none r)
 
 pub loop-k-preserved : goal.loop-k-preserved
 loop-k-preserved c =
     let inv = c.loop-k.invariant in
-    (omega arith, omega (arith, inv.1), λ go r. let t = inv.2 go r in went_both t (c.follow-x.ensures go t.ready))
+    (omega (arith, inv.0), λ go r. let t = inv.1 go r in went_both t (c.follow-any.ensures go t.ready))

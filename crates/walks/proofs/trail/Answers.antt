@@ -3,5 +3,5 @@ use native.Mathlib.Omega.{arith}
 use Rattle.chart.proofs.Reading.{shaped}
 use Rattle.walks.proofs.trail.Goals as goal
 
-pub overflow_cast-row : goal.overflow_cast-row
-overflow_cast-row c = omega (arith, c.loop-k.invariant.1, (shaped c.requires.0).few_states)
+pub overflow_cast-place : goal.overflow_cast-place
+overflow_cast-place c = omega (arith, c.loop-k.invariant.0, (shaped c.args.chart.passed).few_states)
