@@ -14,9 +14,10 @@ const OF_C: [&str; 2] = ["memcpy", "memset"];
 
 /// The functions that come to themselves again, and how many frames of them there are at a time, at most: they take a node's
 /// number, which falls, and a rule has so many nodes; or what is left of a number without its last digit.
-const RECURSIVE: [(&str, usize); 4] = [
+const RECURSIVE: [(&str, usize); 5] = [
     ("settle::settle", NODES),
-    ("call_kind::is_of", NODES),
+    ("call_kind::all_runs", NODES),
+    ("call_kind::some_run", NODES),
     ("rule_printer::print_node", NODES),
     ("decimal::put_number", DIGITS),
 ];

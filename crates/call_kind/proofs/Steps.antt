@@ -11,7 +11,11 @@ use Rattle.tctl.specs.Kind.{Runs, all_runs, some_run, other, is_of}
 use Rattle.rule.specs.Formula.{operation, formula_at}
 use Rattle.rule.specs.declared.NodeWords.{NodeWords}
 use Rattle.rule.proofs.Read.{ReadNode, step, known}
-use Rattle.call_kind.specs.Tested.{until_of}
+
+-- the operation byte of the until of a kind
+abbrev pub until_of : Runs → ℕ
+until_of all_runs = 6
+until_of some_run = 5
 
 module _ (k : Runs) (op : ℕ) (w : NodeWords) (at : ℕ → Formula) where
   leaf : op < 2 → is_of k (operation op w at) ≡ true

@@ -2,12 +2,11 @@
 #![tactic(auto)]
 
 ghost use Rattle.std.specs.Prelude.{◌≡◌, ◌<◌};
-ghost use Rattle.tctl.specs.Kind.{other, is_of};
+ghost use Rattle.tctl.specs.Kind.{all_runs, some_run, is_of};
 ghost use Rattle.rule.specs.Bytes.{node_count};
 ghost use Rattle.rule.specs.Refusals.{rule_refusal};
 ghost use Rattle.rule.specs.Formula.{formula_at};
 ghost use Rattle.call_kind.specs.Kind.{kind_for, Answered};
-ghost use Rattle.call_kind.specs.Tested.{runs_of, until_of};
 
 use outcome::Outcome;
 
@@ -25,51 +24,42 @@ pub struct KindAnswer {
     pub kind: Kind,
 }
 
-// Which runs a kind is about.
-#[derive(Clone, Copy)]
-enum Runs {
-    AllRuns,
-    SomeRun,
-}
-
-impl Runs {
-    // The other kind, which a not asks of its operand.
-    fn other(self) -> Runs
-        ensures { runs_of result ≡ other (runs_of self) }
-    {
-        match self {
-            Runs::AllRuns => Runs::SomeRun,
-            Runs::SomeRun => Runs::AllRuns,
-        }
-    }
-
-    // The until that is never of the kind.
-    fn never(self) -> u8
-        ensures { result ≡ until_of (other (runs_of self)) }
-    {
-        match self {
-            Runs::AllRuns => rule::SOME_UNTIL,
-            Runs::SomeRun => rule::ALL_UNTIL,
-        }
-    }
-}
-
-// The test of the kind at node t.
-fn is_of(rule: &[u8], runs: Runs, t: usize) -> bool
+// The test of the all-runs kind at node t.
+#[cycle(all_runs_some_run)]
+fn all_runs(rule: &[u8], t: usize) -> bool
     requires { ((rule_refusal rule.now).number ≡ 0) × (t < node_count rule.now) }
-    ensures { result ≡ is_of (runs_of runs) (formula_at rule.now t) }
+    ensures { result ≡ is_of all_runs (formula_at rule.now t) }
 {
     let node = rule::node_at(rule, t);
     if node.operation < rule::NOT {
         return true;
     }
     if node.operation == rule::NOT {
-        return is_of(rule, runs.other(), node.a);
+        return some_run(rule, node.a);
     }
-    if node.operation == runs.never() {
+    if node.operation == rule::SOME_UNTIL {
         return false;
     }
-    is_of(rule, runs, node.a) && is_of(rule, runs, node.b)
+    all_runs(rule, node.a) && all_runs(rule, node.b)
+}
+
+// The test of the some-run kind at node t.
+#[cycle(all_runs_some_run)]
+fn some_run(rule: &[u8], t: usize) -> bool
+    requires { ((rule_refusal rule.now).number ≡ 0) × (t < node_count rule.now) }
+    ensures { result ≡ is_of some_run (formula_at rule.now t) }
+{
+    let node = rule::node_at(rule, t);
+    if node.operation < rule::NOT {
+        return true;
+    }
+    if node.operation == rule::NOT {
+        return all_runs(rule, node.a);
+    }
+    if node.operation == rule::ALL_UNTIL {
+        return false;
+    }
+    some_run(rule, node.a) && some_run(rule, node.b)
 }
 
 fn kind_for(all: bool, some: bool) -> Kind
@@ -94,9 +84,7 @@ pub fn kind_of_rule(rule: &[u8]) -> KindAnswer
         };
     }
     let last = rule::node_count(rule) - 1;
-    let all = is_of(rule, Runs::AllRuns, last);
-    let some = is_of(rule, Runs::SomeRun, last);
-    let kind = kind_for(all, some);
+    let kind = kind_for(all_runs(rule, last), some_run(rule, last));
     KindAnswer {
         outcome: outcome::accepted(),
         kind,

@@ -133,7 +133,7 @@ pub fn map_check(detail: &[u8], overview: &[u8], map: &[u8]) -> Outcome
         return Outcome::from(own);
     }
     if let Err(own) = loops::accepted_refusal(overview) {
-        return outcome::of_overview(own);
+        return outcome::of_overview(Outcome::from(own));
     }
     Outcome::from(map_refusal(detail, overview, map))
 }

@@ -2,7 +2,8 @@
 // `step`, which takes a plain slice and a number; the functions above it are thin.
 #![tactic(auto)]
 
-ghost use Rattle.std.specs.Prelude.{◌≡◌};
+ghost use Rattle.std.specs.Prelude.{◌≡◌, eqb};
+ghost use Rattle.chart.specs.Refusals.{chart_refusal};
 ghost use Rattle.call_reader.specs.Reading.{handed, step_of, moved};
 
 use chart::ArrowWords;
@@ -20,11 +21,22 @@ pub struct Stepped {
     pub number: usize,
 }
 
+// The chart passes checks 1 to 9.
+#[tactic(auto, using(outcome::proofs::First::fault_number))]
+fn passes(chart: &[u8]) -> bool
+    ensures { result ≡ eqb (chart_refusal chart.now).number 0 }
+{
+    match chart_refusals::chart_refusal(chart) {
+        Ok(()) => true,
+        Err(_) => false,
+    }
+}
+
 // The work: what a reader of these bytes at this number does.
 pub fn step(chart: &[u8], number: usize) -> Stepped
     ensures { result ≡ step_of chart.now number }
 {
-    if let Ok(()) = chart_refusals::chart_refusal(chart) {
+    if passes(chart) {
         if number < chart::arrow_count(chart) {
             let arrow = chart::arrow_at(chart, chart::state_count(chart), number);
             return Stepped {

@@ -77,7 +77,8 @@ fn settle_until(
     }
 }
 
-// Node t's own row, where those of its operands are right.
+// Node t's own row, where those of its operands are right. Its frame stands once, not in each of the 64 of the tree's.
+#[inline(never)]
 pub fn settle_node(
     counting: bool,
     chart: Chart,

@@ -1,7 +1,7 @@
 // The outcome of a call: a refusal's number and place and which paper was wrong, or success.
 #![tactic(auto)]
 
-ghost use Rattle.std.specs.Prelude.{◌≡◌, ◌<◌};
+ghost use Rattle.std.specs.Prelude.{◌≡◌, ◌≤◌, ◌<◌};
 ghost use Rattle.outcome.specs.Answer.{number_of, told, answer, written};
 ghost use Rattle.outcome.specs.Entry.{entry_of, overview};
 ghost use Rattle.outcome.specs.Refusal.{success, outcome, refusal};
@@ -59,25 +59,6 @@ impl Fault {
             place: place as u32,
         }
     }
-
-    // The entry that its number carries.
-    #[tactic(auto, unfolding(crate::specs::Entry::entry_of))]
-    fn entry(self) -> u32
-        ensures { result ≡ entry_of (number_of self) }
-    {
-        use Fault::*;
-        match self {
-            ChartShort | ChartVersion | ChartStated | StateCount | ArrowCount => CHART_OR_DETAIL,
-            ChartLength | NoSuchState | EmptySlot | NoArrowOut => CHART_OR_DETAIL,
-            RuleShort | RuleVersion | RuleStated | NodeCount => RULE,
-            Malformed | NotLower | NotUsedOnce => RULE,
-            MarksTable | Scratch => BUFFER,
-            NoMap | NoOverviewState | LabelsDiffer => MAP,
-            NoTimedLoop | NotCovered => CHART_OR_DETAIL,
-            NotShowable | LongBound | NotAText | TooMuch => RULE,
-            TableScratch | NoRunFits | OutputShort => BUFFER,
-        }
-    }
 }
 
 // A refusal: the row that is met, and its place, 0 where none is named.
@@ -114,24 +95,84 @@ pub fn accepted() -> Outcome
     }
 }
 
+// The entry that a number of 02 carries.
+fn later_entry(number: u32) -> u32
+    requires { 24 ≤ number }
+    ensures { result ≡ entry_of number }
+{
+    if number < 60 {
+        return NONE_WRONG;
+    }
+    if number < 61 {
+        return RULE;
+    }
+    if number < 63 {
+        return BUFFER;
+    }
+    if number < 66 {
+        return RULE;
+    }
+    if number < 67 {
+        return BUFFER;
+    }
+    NONE_WRONG
+}
+
+// The entry that a number carries.
+fn entry_of(number: u32) -> u32
+    ensures { result ≡ entry_of number }
+{
+    if number < 1 {
+        return NONE_WRONG;
+    }
+    if number < 10 {
+        return CHART_OR_DETAIL;
+    }
+    if number < 17 {
+        return RULE;
+    }
+    if number < 19 {
+        return BUFFER;
+    }
+    if number < 20 {
+        return CHART_OR_DETAIL;
+    }
+    if number < 23 {
+        return MAP;
+    }
+    if number < 24 {
+        return CHART_OR_DETAIL;
+    }
+    later_entry(number)
+}
+
+// Of any number, one that no row has too.
+pub fn refused(number: u32, place: u32) -> Outcome
+    ensures { result ≡ refusal number place }
+{
+    Outcome {
+        number,
+        place,
+        entry: entry_of(number),
+    }
+}
+
 impl From<Refusal> for Outcome {
     ghost from_gives = { λ own result. result ≡ told own };
 
+    // Once in the archive, and not in every call.
+    #[inline(never)]
     fn from(own: Refusal) -> Outcome {
-        Outcome {
-            number: own.fault.number(),
-            place: own.place,
-            entry: own.fault.entry(),
-        }
+        refused(own.fault.number(), own.place)
     }
 }
 
 // A chart's refusal, of the overview.
-pub fn of_overview(own: Refusal) -> Outcome
-    ensures { result ≡ outcome (number_of own.fault) own.place overview }
+pub fn of_overview(own: Outcome) -> Outcome
+    ensures { result ≡ outcome own.number own.place overview }
 {
     Outcome {
-        number: own.fault.number(),
+        number: own.number,
         place: own.place,
         entry: OVERVIEW,
     }

@@ -22,24 +22,18 @@ fn put_leaf(operation: u8, a: usize, at: usize, out: &mut [u8]) -> usize
     decimal::put_number(a, lettered, out)
 }
 
-// What stands before the first operand of an operation that has one.
+// What stands before the first operand of an operation that has one; each word by itself, so that its length is known.
 #[tactic(auto, unfolding(crate::specs::Parts::opening_text))]
-fn opening(operation: u8) -> &'static [u8]
-    ensures { result.now ≡ opening_text operation }
-{
-    match operation {
-        rule::NOT => b"!",
-        rule::SOME_UNTIL => b"E(",
-        ..=rule::OR => b"(",
-        _ => b"A(",
-    }
-}
-
 fn put_opening(operation: u8, at: usize, out: &mut [u8]) -> usize
     requires { Room at (opening_text operation) out.old }
     ensures { Appended at (opening_text operation) result out.old out.new }
 {
-    append::put_word(opening(operation), at, out)
+    match operation {
+        rule::NOT => append::put_word(b"!", at, out),
+        rule::SOME_UNTIL => append::put_word(b"E(", at, out),
+        ..=rule::OR => append::put_word(b"(", at, out),
+        _ => append::put_word(b"A(", at, out),
+    }
 }
 
 // The first byte of <=, >= or ==, by the kind of the bound.

@@ -81,7 +81,8 @@ fn offending(fault: Fault, w: NodeWords, t: usize) -> bool
     }
 }
 
-// Row 14, 15 or 63: the lowest node with its fault.
+// Row 14, 15 or 63: the lowest node with its fault. A loop for each row, that asks nothing but its own condition.
+#[inline(always)]
 fn node_refusal(fault: Fault, rule: &[u8], k: usize) -> Result<(), Refusal>
     requires { Shape rule.now k }
     ensures { answer result ≡ first (node_row (number_of fault) rule.now k ∷ []) }

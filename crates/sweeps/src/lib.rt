@@ -10,7 +10,8 @@ use ways::Way;
 
 // The last arrow from the floor on and before arrow k that would raise a number. A loop of its own, for the arrows that
 // change nothing are most of them.
-fn last_raising(way: Way, chart: Chart, floor: usize, k: usize, numbers: &[u32]) -> Option<usize>
+#[inline(never)]
+fn last_raising(way: Way, chart: Chart, numbers: &[u32], floor: usize, k: usize) -> Option<usize>
     requires { Given way chart.bytes.now chart.states chart.arrows numbers.now × (floor ≤ k)
         × (k ≤ chart.arrows) }
     ensures { Quiet way chart.entry.bytes.now floor (after floor result) k numbers.now }
@@ -32,12 +33,12 @@ pub fn sweep(way: Way, floor: usize, chart: Chart, numbers: &mut [u32]) -> Optio
         numbers.old numbers.new }
 {
     let mut last = None;
-    let mut next = last_raising(way, chart, floor, chart.arrows, numbers);
+    let mut next = last_raising(way, chart, numbers, floor, chart.arrows);
     while let Some(i) = next {
         if visits::renew(way, chart, i, numbers) {
             last = Some(i);
         }
-        next = last_raising(way, chart, 0, i, numbers);
+        next = last_raising(way, chart, numbers, 0, i);
     }
     last
 }

@@ -34,14 +34,14 @@ node_count-last-requires c =
 pub overflow_sub-last : goal.overflow_sub-last
 overflow_sub-last c = omega (arith, (shape c.args.rule.now c.in_default.ensures refl).some_nodes)
 
-pub is_of-all-requires : goal.is_of-all-requires
-is_of-all-requires c =
+pub all_runs-requires : goal.all_runs-requires
+all_runs-requires c =
     let told = c.in_default.ensures in
     let zero = refl in
     (passed c.args.rule.now told zero, omega (arith, (shape c.args.rule.now told zero).some_nodes))
 
-pub is_of-some-requires : goal.is_of-some-requires
-is_of-some-requires c =
+pub some_run-requires : goal.some_run-requires
+some_run-requires c =
     let told = c.in_default.ensures in
     let zero = refl in
     (passed c.args.rule.now told zero, omega (arith, (shape c.args.rule.now told zero).some_nodes))
@@ -49,5 +49,5 @@ is_of-some-requires c =
 pub returns : goal.returns
 returns c =
     let e = ap (λ k. formula_at c.args.rule.now (k - 1)) c.node_count-last.ensures.0 in
-    answered _ (c.accepted.ensures ∙ c.in_default.ensures) (ap (λ (o : Outcome). o.number) c.accepted.ensures) (c.is_of-all.ensures ∙ ap (is_of all_runs) e)
-    (c.is_of-some.ensures ∙ ap (is_of some_run) e) c.kind_for-kind.ensures
+    answered _ (c.accepted.ensures ∙ c.in_default.ensures) (ap (λ (o : Outcome). o.number) c.accepted.ensures) (c.all_runs.ensures ∙ ap (is_of all_runs) e)
+    (c.some_run.ensures ∙ ap (is_of some_run) e) c.kind_for-kind.ensures

@@ -1,9 +1,11 @@
 -- The detail's rows, the overview's, and those of the map.
-use mathlib.Core.Path.{◌≡◌, refl, sym, ap, ◌∙◌}
+use mathlib.Core.Path.{refl, sym, ap, ◌∙◌}
 use Rattle.outcome.specs.declared.Outcome.{Outcome}
+use Rattle.outcome.specs.Entry.{overview}
+use Rattle.outcome.specs.Refusal.{outcome}
 use Rattle.outcome.proofs.First.{part_zero, fault_number}
 use Rattle.loops.proofs.Accepted.{chart_passed}
-use Rattle.call_map.proofs.Overview.{overview_passed, overview_refuses, overview_passes}
+use Rattle.call_map.proofs.Overview.{overview_refuses, overview_passes}
 use Rattle.call_map.proofs.Chain.{lower_refuses, upper_refuses, map_next}
 use Rattle.call_map.proofs.map_check.Goals as goal
 
@@ -13,7 +15,7 @@ returns-in-Err c = c.from.ensures ∙ lower_refuses _ _ _ c.in-Err.ensures (faul
 pub returns-in-Err-accepted_refusal : goal.returns-in-Err-accepted_refusal
 returns-in-Err-accepted_refusal c =
     let own = c.in-Err-accepted_refusal in
-    let other = c.of_overview.ensures in
+    let other = c.of_overview.ensures ∙ ap (λ (o : Outcome). outcome o.number o.place overview) c.from-in-Err-accepted_refusal.ensures in
     upper_refuses _ _ _ c.in_default.ensures refl (overview_refuses _ own.ensures (fault_number _) other)
     (λ z. fault_number own.own.fault (sym (ap (λ (o : Outcome). o.number) other) ∙ z))
 

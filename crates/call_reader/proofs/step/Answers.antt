@@ -1,13 +1,14 @@
 -- `call_reader::step` meets its contract: past the first test the chart passes checks 1 to 9, and the second says whether an
 -- arrow has the number.
-use mathlib.Core.Path.{◌≡◌, refl, sym, ap, ◌∙◌}
+use mathlib.Core.Path.{◌≡◌, sym, ap, ◌∙◌}
+use mathlib.Core.Bool.{Bool, true}
 use mathlib.Core.List.{List}
 use Prim.Native.Nat.{ℕ, ◌≤◌, ◌<◌}
 use native.Mathlib.Omega.{arith}
 use lib.ListN.{length}
+use lib.Dec.{eqb}
+use borrow.Author.Tests.{eqb-true, eqb-false}
 use Rattle.std.specs.Prelude.{Option, Some}
-use Rattle.outcome.specs.declared.Outcome.{Outcome}
-use Rattle.outcome.proofs.First.{fault_number}
 use Rattle.chart.specs.declared.ArrowWords.{ArrowWords}
 use Rattle.chart.specs.Bytes.{arrow_count}
 use Rattle.chart.specs.Shape.{Passed}
@@ -26,18 +27,18 @@ with_number :
     ◌≡◌ {A = Stepped} (record { handed = h; number = number_after h i }) (step_of s i)
 with_number s i e = λ t. record { handed = e t; number = number_after (e t) i }
 
--- the chart's test, seen from its outcome
-passed : (s : List ℕ) {o : Outcome} → o ≡ chart_refusal s → o.number ≡ 0 → (chart_refusal s).number ≡ 0
-passed s e z = sym (ap (λ (o : Outcome). o.number) e) ∙ z
+-- what the chart's test says
+passed : (s : List ℕ) {b : Bool} → b ≡ eqb (chart_refusal s).number 0 → b ≡ true → (chart_refusal s).number ≡ 0
+passed s e z = eqb-true (chart_refusal s).number 0 (sym e ∙ z)
 
-long : (s : List ℕ) {o : Outcome} → o ≡ chart_refusal s → o.number ≡ 0 → 9 ≤ length s
+long : (s : List ℕ) {b : Bool} → b ≡ eqb (chart_refusal s).number 0 → b ≡ true → 9 ≤ length s
 long s e z = (well_formed s (passed s e z)).head.enough
 
 pub arrow_count-requires : goal.arrow_count-requires
-arrow_count-requires c = long _ c.in-Ok.ensures refl
+arrow_count-requires c = long _ c.passes.ensures c.if-passes.true
 
 pub state_count-requires : goal.state_count-requires
-state_count-requires c = long _ c.in-Ok.ensures refl
+state_count-requires c = long _ c.passes.ensures c.if-passes.true
 
 pub arrow_at-arrow-requires : goal.arrow_at-arrow-requires
 arrow_at-arrow-requires c =
@@ -45,7 +46,7 @@ arrow_at-arrow-requires c =
     record {
       states = c.state_count.ensures.0;
       arrows = c.arrow_count.ensures.0;
-      unrefused = passed _ c.in-Ok.ensures refl;
+      unrefused = passed _ c.passes.ensures c.if-passes.true;
     } in
     arrow_inside (shaped p) c.if-number-arrow_count.true
 
@@ -54,7 +55,7 @@ returns-then-number-arrow_count c =
     let s = c.args.chart.now in
     let i = c.args.number in
     let l : i < arrow_count s = omega (arith, c.if-number-arrow_count.true, c.arrow_count.ensures.0) in
-    let unrefused = passed s c.in-Ok.ensures refl in
+    let unrefused = passed s c.passes.ensures c.if-passes.true in
     with_number s i (ap Some c.arrow_at-arrow.ensures.0 ∙ sym (hands_out s unrefused i l))
 
 pub returns-else-number-arrow_count : goal.returns-else-number-arrow_count
@@ -62,7 +63,8 @@ returns-else-number-arrow_count c =
     let s = c.args.chart.now in
     with_number s _ (sym (finished_past s _ (omega (arith, c.if-number-arrow_count.false, c.arrow_count.ensures.0))))
 
-pub returns-in_default : goal.returns-in_default
-returns-in_default c =
-    let same = ap (λ (o : Outcome). o.number) c.in_default.ensures in
-    with_number c.args.chart.now _ (sym (finished_at_once c.args.chart.now (λ z. fault_number _ (same ∙ z)) _))
+pub returns-else-passes : goal.returns-else-passes
+returns-else-passes c =
+    let s = c.args.chart.now in
+    let no = eqb-false (chart_refusal s).number 0 (sym c.passes.ensures ∙ c.if-passes.false) in
+    with_number s _ (sym (finished_at_once s no _))
